@@ -1,0 +1,5 @@
+pub mod Allowed
+pub mod Entries
+pub mod NameRule
+pub mod Scripts
+pub mod WordsLaws

@@ -1,0 +1,162 @@
+-- The step of each kind of microprotocol.
+use Rattle.std.specs.Prelude.{ℕ, zero, suc, ◌+◌, ◌-◌, ◌%◌, ◌^◌, Bool, true, false, nat_lt, if◌then◌else◌, List, [], ◌∷◌, take, drop, Option, Some, None, slice_index, slice_index_or, slice_set, slice_get}
+use Rattle.samoa_model.specs.declared.handler.Moment.{Moment}
+use Rattle.samoa_model.specs.declared.handler.Moment.TheVariants.{Begin, Resume}
+use Rattle.samoa_model.specs.declared.handler.Dest.{Dest}
+use Rattle.samoa_model.specs.declared.handler.Dest.TheVariants.{One, All}
+use Rattle.samoa_model.specs.declared.handler.Refusal.{Refusal}
+use Rattle.samoa_model.specs.declared.handler.Refusal.TheVariants.{OverBudget, Unbound, Undeclared, OverBound, OffRoute}
+use Rattle.samoa_model.specs.declared.handler.Reply.{Reply}
+use Rattle.samoa_model.specs.declared.handler.Reply.TheVariants.{Words, Refused}
+use Rattle.samoa_model.specs.declared.ids.EventId.{EventId}
+use Rattle.samoa_model.specs.declared.ids.ChangeId.{ChangeId}
+use Rattle.samoa_model.specs.declared.handler.Outcome.{Outcome}
+use Rattle.samoa_model.specs.declared.handler.Outcome.TheVariants as gives
+use Rattle.samoa_model.specs.declared.setup.Kind.{Kind}
+use Rattle.samoa_model.specs.declared.setup.Kind.TheVariants.{Prog}
+use Rattle.samoa_model.specs.declared.setup.Place.{Place}
+use Rattle.samoa_model.specs.declared.setup.Place.TheVariants.{Reg, Local}
+use Rattle.samoa_model.specs.declared.setup.Instr.{Instr}
+use Rattle.samoa_model.specs.declared.setup.Instr.TheVariants as instr
+use Rattle.samoa_model.specs.declared.setup.Setup.{Setup}
+use Rattle.samoa_serial.specs.State.{State, Registers, Blank}
+
+-- the event and the change that stand at a position; number 0 past the end
+abbrev pub port_at : Setup → ℕ → EventId
+port_at setup port = slice_index_or setup.ports port (record { 0 = 0 })
+
+abbrev pub change_at_place : Setup → ℕ → ChangeId
+change_at_place setup change = slice_index_or setup.changes change (record { 0 = 0 })
+
+-- a message to this node, or to all where there is no such node
+abbrev pub dest_of : Setup → ℕ → Dest
+dest_of setup node = if nat_lt node setup.nodes then One (record { 0 = node }) else All
+
+-- the first four numbers of a list, 0 where there are fewer
+abbrev pub first_four : List ℕ → List ℕ
+first_four xs = slice_index xs 0 ∷ slice_index xs 1 ∷ slice_index xs 2 ∷ slice_index xs 3 ∷ []
+
+-- the numbers that a scripted handler works on
+pub record Numbers : Type 0 where
+  pub registers : List ℕ
+  pub locals : List ℕ
+
+-- the number at a place
+abbrev pub number_at : Numbers → Place → ℕ
+number_at n (Reg k) = slice_index n.registers k
+number_at n (Local k) = slice_index n.locals k
+
+-- the numbers, with this one at a place
+abbrev pub with_number : Numbers → Place → ℕ → Numbers
+with_number n (Reg k) x = record { registers = slice_set n.registers k x; locals = n.locals }
+with_number n (Local k) x = record { registers = n.registers; locals = slice_set n.locals k x }
+
+-- a step ends: the registers are kept, and the outcome is given
+abbrev pub ends_with : Numbers → Outcome → State × Outcome
+ends_with n outcome = (Registers n.registers, outcome)
+
+-- what a handler is resumed with later: the place of the next instruction, and the locals
+abbrev pub frame_at : ℕ → Numbers → List ℕ
+frame_at next n = next ∷ n.locals
+
+-- carries out the instructions that are left, the first of which stands at `at`, until one gives an outcome;
+-- so many are skipped first
+abbrev pub carry_out : Setup → ℕ → ℕ → List Instr → Numbers → State × Outcome
+carry_out setup skip at [] n = ends_with n (gives.Done [])
+carry_out setup (suc skip) at (_ ∷ rest) n = carry_out setup skip (at + 1) rest n
+carry_out setup zero at (instr.Set d x ∷ rest) n = carry_out setup 0 (at + 1) rest (with_number n d x)
+carry_out setup zero at (instr.Copy d s ∷ rest) n = carry_out setup 0 (at + 1) rest (with_number n d (number_at n s))
+carry_out setup zero at (instr.Add d s ∷ rest) n =
+    carry_out setup 0 (at + 1) rest (with_number n d ((number_at n d + number_at n s) % 2 ^ 64))
+carry_out setup zero at (instr.Sub d s ∷ rest) n =
+    carry_out setup 0 (at + 1) rest (with_number n d ((number_at n d + 2 ^ 64 - number_at n s) % 2 ^ 64))
+carry_out setup zero at (instr.Less s t j ∷ rest) n =
+    carry_out setup (if nat_lt (number_at n s) (number_at n t) then j else 0) (at + 1) rest n
+carry_out setup zero at (instr.Call port k ∷ rest) n =
+    ends_with n (gives.Call (port_at setup port) (take k n.locals) (frame_at (at + 1) n))
+carry_out setup zero at (instr.Later port k ∷ rest) n =
+    ends_with n (gives.Later (port_at setup port) (take k n.locals) (frame_at (at + 1) n))
+carry_out setup zero at (instr.Send s port k ∷ rest) n =
+    ends_with n (gives.Send (dest_of setup (number_at n s)) (port_at setup port) (take k n.locals) (frame_at (at + 1) n))
+carry_out setup zero at (instr.Deliver k ∷ rest) n = ends_with n (gives.Deliver (take k n.locals) (frame_at (at + 1) n))
+carry_out setup zero at (instr.Change c k ∷ rest) n =
+    ends_with n (gives.Change (change_at_place setup c) (take k n.locals) (frame_at (at + 1) n))
+carry_out setup zero at (instr.Done k ∷ rest) n = ends_with n (gives.Done (take k n.locals))
+
+-- the code of a handler, from a place on, over these numbers; Done with no word where there is no such handler
+abbrev pub run_from : Setup → Option (List Instr) → ℕ → Numbers → State × Outcome
+run_from setup None at n = ends_with n (gives.Done [])
+run_from setup (Some code) at n = carry_out setup 0 at (drop at code) n
+
+-- whether an instruction asks for a reply
+abbrev pub is_call : Option Instr → Bool
+is_call (Some (instr.Call port k)) = true
+is_call _ = false
+
+-- whether a handler that goes on here waited for a reply
+abbrev pub waited : Option (List Instr) → ℕ → Bool
+waited (Some code) (suc before) = is_call (slice_get code before)
+waited _ _ = false
+
+-- the code of a refusal
+abbrev pub code_of : Refusal → ℕ
+code_of Undeclared = 1
+code_of OverBound = 2
+code_of OffRoute = 3
+code_of Unbound = 4
+code_of OverBudget = 0
+
+-- the locals, with a reply in the first two
+abbrev pub with_reply : List ℕ → Reply → List ℕ
+with_reply locals (Words words) = slice_set (slice_set locals 0 (slice_index words 0)) 1 0
+with_reply locals (Refused refusal) = slice_set (slice_set locals 0 0) 1 (code_of refusal)
+
+-- the locals that a resumed handler goes on with
+abbrev pub resumed : Bool → List ℕ → Reply → List ℕ
+resumed true locals reply = with_reply locals reply
+resumed false locals reply = locals
+
+-- a step of a scripted handler
+abbrev pub script_step : Setup → List ℕ → Moment → State × Outcome
+script_step setup registers (Begin handler arg) =
+    run_from setup (slice_get setup.codes handler) 0 (record { registers = registers; locals = first_four arg })
+script_step setup registers (Resume handler frame reply) =
+    let code = slice_get setup.codes handler in
+    let at = slice_index frame 0 in
+    run_from setup code at (record { registers = registers; locals = resumed (waited code at) (first_four (drop 1 frame)) reply })
+
+-- a step of a microprotocol of this kind, set up so, from this state: its new state and its outcome.
+-- A kind whose table isn't here yet is done with no word
+abbrev pub kind_step : Kind → Setup → State → Moment → State × Outcome
+kind_step Prog setup (Registers registers) moment = script_step setup registers moment
+kind_step _ setup state moment = (state, gives.Done [])
+
+-- the state after being set up
+abbrev pub opening : Kind → Setup → State
+opening Prog setup = Registers (first_four setup.nums)
+opening _ setup = Blank
+
+-- the words that a microprotocol shows
+abbrev pub shown : Kind → State → List ℕ
+shown Prog (Registers registers) = registers
+shown _ state = []
+
+-- what contracts see of a microprotocol. Where it is still to be set up, its setup and its state say nothing
+pub record Seen : Type 0 where
+  pub kind : Kind
+  pub fresh : Bool
+  pub setup : Setup
+  pub state : State
+
+-- one of this kind that was just set up so
+abbrev pub set_up_as : Kind → Setup → Seen
+set_up_as kind setup = record { kind = kind; fresh = false; setup = setup; state = opening kind setup }
+
+-- what a step leaves of it
+abbrev pub after_step : Seen → Moment → Seen
+after_step seen moment =
+    record { kind = seen.kind; fresh = seen.fresh; setup = seen.setup; state = (kind_step seen.kind seen.setup seen.state moment).0 }
+
+-- what a step gives
+abbrev pub outcome_of : Seen → Moment → Outcome
+outcome_of seen moment = (kind_step seen.kind seen.setup seen.state moment).1

@@ -1,0 +1,10 @@
+pub mod Alone
+pub mod Calls
+pub mod History
+pub mod Kinds
+pub mod Lines
+pub mod Report
+pub mod SerialRun
+pub mod State
+pub mod Whole
+pub mod World
