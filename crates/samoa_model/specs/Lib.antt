@@ -1,5 +1,6 @@
 pub mod Allowed
 pub mod Entries
 pub mod NameRule
+pub mod Range
 pub mod Scripts
 pub mod WordsLaws

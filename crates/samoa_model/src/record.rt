@@ -28,7 +28,10 @@ pub enum Entry {
         arg: Words,
     },
     /// A handler call has ended with this reply.
-    Finished { call: u32, reply: Words },
+    Finished {
+        call: u32,
+        reply: Words,
+    },
     /// A call was refused, or the computation was cut: `event` is None exactly for `OverBudget`.
     Refused {
         caller: u32,

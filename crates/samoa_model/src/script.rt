@@ -32,9 +32,13 @@ pub struct MicroDef {
 #[derive(Debug, Drop)]
 pub enum Decl {
     /// The microprotocols named.
-    Set { micros: Listed<u32> },
+    Set {
+        micros: Listed<u32>,
+    },
     /// Each microprotocol named, at most so many times, 1 to 256.
-    Bound { bounds: Listed<(u32, u32)> },
+    Bound {
+        bounds: Listed<(u32, u32)>,
+    },
     /// Handlers along edges, beginning at a root. Roots and edges are positions in the at most 32 vertices.
     Route {
         vertices: Listed<HandlerId>,
