@@ -1,4 +1,5 @@
 pub mod Allowed
+pub mod Cells
 pub mod Entries
 pub mod NameRule
 pub mod Range
