@@ -1,0 +1,9 @@
+pub mod Forms
+pub mod Held
+pub mod Instrs
+pub mod Meaning
+pub mod Names
+pub mod Passes
+pub mod Tests
+pub mod Tree
+pub mod Walks
