@@ -1,0 +1,4 @@
+pub mod Reach
+pub mod Falls
+pub mod Refine
+pub mod End
