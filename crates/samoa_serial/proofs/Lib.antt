@@ -1,4 +1,10 @@
-pub mod Reach
-pub mod Falls
-pub mod Refine
+pub mod Bound
+pub mod Declared
 pub mod End
+mod Example
+pub mod Falls
+pub mod Fixed
+pub mod Lengths
+pub mod Point
+pub mod Reach
+pub mod Refine
