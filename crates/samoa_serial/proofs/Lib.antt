@@ -9,5 +9,8 @@ pub mod Lengths
 pub mod Point
 pub mod Reach
 pub mod Refine
+mod ReferenceMoments
+mod ReferenceReport
+mod ReferenceRuns
 pub mod ReportLaws
 pub mod SerialLaws
