@@ -13,4 +13,5 @@ mod ReferenceMoments
 mod ReferenceReport
 mod ReferenceRuns
 pub mod ReportLaws
+pub mod ScriptLaws
 pub mod SerialLaws
