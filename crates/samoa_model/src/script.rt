@@ -242,3 +242,65 @@ impl Script {
         })
     }
 }
+
+#[cfg(test)]
+mod tests {
+    use super::*;
+    use crate::Place;
+    use std::test::Fail;
+
+    fn one_of<T>(alloc: Global, item: T) -> Result<Listed<T>, Fail>
+    where
+        T: Drop,
+    {
+        let mut items = Vec::new(alloc);
+        items.push(item)?;
+        Ok(Listed::from_vec(items))
+    }
+
+    #[test]
+    fn copies_a_script(rt: HostRuntime) -> Result<(), Fail> {
+        let alloc = rt.alloc();
+        let code = CodeDef {
+            name: Name::new("h"),
+            code: one_of(
+                alloc,
+                Instr::Set {
+                    d: Place::Reg(1),
+                    n: 7,
+                },
+            )?,
+        };
+        let micro = MicroDef {
+            name: Name::new("m"),
+            kind: Kind::Prog,
+            nums: Words::new(),
+            ports: one_of(alloc, EventId(0))?,
+            changes: Listed::from_vec(Vec::new(alloc)),
+            handlers: one_of(alloc, code)?,
+        };
+        let decl = DeclDef {
+            name: Name::new("d"),
+            budget: 32,
+            decl: Decl::Set {
+                micros: one_of(alloc, 0)?,
+            },
+        };
+        let script = Script {
+            nodes: 2,
+            ticks: 3,
+            micros: one_of(alloc, micro)?,
+            decls: one_of(alloc, decl)?,
+            events: Listed::from_vec(Vec::new(alloc)),
+            changes: Listed::from_vec(Vec::new(alloc)),
+            does: Listed::from_vec(Vec::new(alloc)),
+            losses: Listed::from_vec(Vec::new(alloc)),
+            crashes: Listed::from_vec(Vec::new(alloc)),
+        };
+        let copy = script.copied(alloc)?;
+        assert_eq!(rt; copy.ticks, 3);
+        assert_eq!(rt; copy.micros.len(), 1);
+        assert_eq!(rt; copy.decls.len(), 1);
+        Ok(())
+    }
+}

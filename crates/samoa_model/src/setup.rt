@@ -90,3 +90,20 @@ impl Setup {
         })
     }
 }
+
+#[cfg(test)]
+mod tests {
+    use super::*;
+    use std::test::Fail;
+
+    #[test]
+    fn copies_a_setup(rt: HostRuntime) -> Result<(), Fail> {
+        let alloc = rt.alloc();
+        let mut setup = Setup::empty(alloc);
+        setup.nodes = 3;
+        let copy = setup.copied(alloc)?;
+        assert_eq!(rt; copy.nodes, 3);
+        assert_eq!(rt; copy.codes.len(), 0);
+        Ok(())
+    }
+}
