@@ -1,0 +1,8 @@
+pub mod Made
+pub mod Named
+pub mod Nexts
+pub mod Passes
+pub mod Starts
+pub mod Taken
+pub mod Tries
+pub mod Wakes
