@@ -2,7 +2,6 @@ pub mod Made
 pub mod Named
 pub mod Nexts
 pub mod Passes
-pub mod Starts
 pub mod Taken
 pub mod Tries
 pub mod Wakes

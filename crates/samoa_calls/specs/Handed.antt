@@ -1,5 +1,5 @@
 -- What contracts of a computation speak of beside the computation itself.
-use Rattle.std.specs.Prelude.{ℕ, ◌<◌, List, [], ◌∷◌, Option, Some, None, All, length, option_map}
+use Rattle.std.specs.Prelude.{ℕ, ◌<◌, ◌-◌, List, [], ◌∷◌, Option, Some, None, All, length, option_map}
 use Rattle.samoa_model.specs.declared.handler.Reply.{Reply}
 use Rattle.samoa_model.specs.declared.handler.Moment.{Moment}
 use Rattle.samoa_model.specs.declared.handler.Outcome.{Outcome}
@@ -17,6 +17,10 @@ use Rattle.samoa_model.specs.Scripts.{Table}
 abbrev pub handed : Books → Option Ending → List Active → Reply → Computation
 handed books answer [] reply = record { active = []; books = books; answer = first_answer answer reply }
 handed books answer (a ∷ rest) reply = record { active = given a.call a.due reply ∷ rest; books = books; answer = answer }
+
+-- with one unit less
+abbrev pub spent : Books → Books
+spent books = record books { units = books.units - 1 }
 
 -- the events that a list of waiting calls names, and that an outcome names, are in the table
 abbrev pub AreNamed : Table → List Waiting → Type 0

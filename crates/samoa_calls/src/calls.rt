@@ -1,16 +1,17 @@
 //! The calls of a computation, as an explicit list of the active ones.
-ghost use Rattle.std.specs.Prelude.{◌≡◌, ℕ, ◌+◌, ◌*◌, ◌<◌, ◌≤◌, ◌-◌, ◌↔◌, List, [], ◌∷◌, length, reverse, None, Some, false, IfOk, IsTrue, slice_get, vec_capacity};
+ghost use Rattle.std.specs.Prelude.{◌≡◌, ◌<◌, ◌≤◌, ◌↔◌, List, [], ◌∷◌, length, None, false, IfOk, IsSome, IsTrue, slice_get};
 ghost use Rattle.samoa_model.specs.Entries.{calls_made};
 ghost use Rattle.samoa_model.specs.Range.{IsSet};
 ghost use Rattle.samoa_model.specs.Scripts.{Table, resolve};
 ghost use Rattle.samoa_serial.specs.declared.call.Active.{Active};
 ghost use Rattle.samoa_serial.specs.declared.call.Call.{Call};
-ghost use Rattle.samoa_serial.specs.World.{attempts_of, noted, over_budget, resume, waits};
-ghost use Rattle.samoa_serial.specs.Calls.{at_frame, at_moment, cut, given, goes_on, outcome_effect, start, take_outcome, woken};
+ghost use Rattle.samoa_serial.specs.World.{attempts_of, noted, over_budget, waits};
+ghost use Rattle.samoa_serial.specs.Calls.{cut, goes_on, outcome_effect, start, take_outcome, woken};
 ghost use Rattle.samoa_bind.specs.Bound.{epochs_of, table_at};
-ghost use Rattle.samoa_calls.specs.Handed.{AreNamed, IsNamed, ended_at, ending_of, fresh, handed, next_moment};
+ghost use Rattle.samoa_calls.specs.Handed.{AreNamed, IsNamed, ended_at, ending_of, fresh, handed, next_moment, spent};
 
 use crate::attempt::attempt;
+use crate::stack::{go_on, hand, wait};
 use samoa_bind::Tables;
 use samoa_model::{
     Decl, Ending, Entry, EventId, HandlerId, MicroId, Moment, NoMemory, NodeId, Outcome, Refusal,
@@ -72,7 +73,8 @@ impl Calls {
         requires few { length handlers.now ≤ 4 }
         requires fresh { self.old ≡ fresh self.old.units }
         ensures none_waits { self.new.waiting ≡ [] }
-        ensures started { (table : Table) → resolve table event ≡ handlers.now → self.new ≡ start (attempts_of decl.now table) self.old.units event arg }
+        ensures started { (table : Table) → resolve table event ≡ handlers.now
+            → self.new ≡ start (attempts_of decl.now table) self.old.units event arg }
     {
         let refused = attempt(
             &mut self.active,
@@ -92,7 +94,8 @@ impl Calls {
 
     /// The next handler step, None exactly where nothing is active.
     pub(crate) fn next(&self) -> Option<(MicroId, Moment)>
-        ensures { result ≡ next_moment self.now }
+        ensures next { result ≡ next_moment self.now }
+        ensures active { IsSome result → (a : Active) × (rest : List Active) × (self.now.active ≡ a ∷ rest) }
     {
         if self.is_idle() {
             return None;
@@ -118,8 +121,10 @@ impl Calls {
         requires epoch { epoch < length (epochs_of tables.now node) }
         requires waiting_named { AreNamed (table_at tables.now node epoch) self.old.waiting }
         requires named { IsNamed (table_at tables.now node epoch) outcome }
-        ensures taken { self.new ≡ take_outcome (attempts_of decl.now (table_at tables.now node epoch)) self.old outcome }
-        ensures ended { (a : Active) (rest : List Active) → self.old.active ≡ a ∷ rest → result ≡ ended_at a.call outcome }
+        ensures taken { self.new
+            ≡ take_outcome (attempts_of decl.now (table_at tables.now node epoch)) self.old outcome }
+        ensures ended { (a : Active) (rest : List Active) → self.old.active ≡ a ∷ rest
+            → result ≡ ended_at a.call outcome }
     {
         let micro = self.innermost().handler.micro;
         match outcome {
@@ -149,7 +154,9 @@ impl Calls {
         requires epoch { epoch < length (epochs_of tables.now node) }
         requires named { IsNamed (table_at tables.now node epoch) outcome }
         requires not_done { (c : Call) → ended_at c outcome ≡ None }
-        ensures { (a : Active) (rest : List Active) → self.old.active ≡ a ∷ rest → self.new ≡ outcome_effect (attempts_of decl.now (table_at tables.now node epoch)) (record self.old.books { units = self.old.units - 1 }) self.old.answer rest a.call outcome }
+        ensures { (a : Active) (rest : List Active) → self.old.active ≡ a ∷ rest
+            → self.new ≡ outcome_effect (attempts_of decl.now (table_at tables.now node epoch))
+            (spent self.old.books) self.old.answer rest a.call outcome }
     {
         let call = self.innermost();
         match outcome {
@@ -201,7 +208,8 @@ impl Calls {
 
     fn is_idle(&self) -> bool
         ensures idle { IsTrue result → self.now.active ≡ [] }
-        ensures active { result ≡ false → (a : Active) × (rest : List Active) × (self.now.active ≡ a ∷ rest) }
+        ensures active { result ≡ false
+            → (a : Active) × (rest : List Active) × (self.now.active ≡ a ∷ rest) }
     {
         self.active.is_empty()
     }
@@ -211,7 +219,8 @@ impl Calls {
         requires unit { 0 < self.old.units }
         requires no_call { calls_made (entry ∷ []) ≡ 0 }
         requires active { (a : Active) × (rest : List Active) × (self.old.active ≡ a ∷ rest) }
-        ensures { (a : Active) (rest : List Active) → self.old.active ≡ a ∷ rest → self.new ≡ goes_on (noted (record self.old.books { units = self.old.units - 1 }) entry) self.old.answer rest a.call frame }
+        ensures { (a : Active) (rest : List Active) → self.old.active ≡ a ∷ rest
+            → self.new ≡ goes_on (noted (spent self.old.books) entry) self.old.answer rest a.call frame }
     {
         self.units -= 1;
         self.entries.push(entry);
@@ -224,7 +233,8 @@ impl Calls {
         requires idle { self.old.active ≡ [] }
         requires epoch { epoch < length (epochs_of tables.now node) }
         requires names { AreNamed (table_at tables.now node epoch) self.old.waiting }
-        ensures { self.new ≡ woken (attempts_of decl.now (table_at tables.now node epoch)) self.old.waiting self.old.books self.old.answer }
+        ensures { self.new ≡ woken (attempts_of decl.now (table_at tables.now node epoch))
+            self.old.waiting self.old.books self.old.answer }
     {
         while self.taken < self.waiting.len() {
             let first = self.waiting[self.taken];
@@ -253,7 +263,9 @@ impl Calls {
     /// The innermost call has ended, and its reply is handed on.
     fn finish(&mut self, reply: Words)
         requires active { (a : Active) × (rest : List Active) × (self.old.active ≡ a ∷ rest) }
-        ensures { (a : Active) (rest : List Active) → self.old.active ≡ a ∷ rest → self.new ≡ handed (noted self.old.books (Entry.Finished a.call.number reply)) self.old.answer rest (Reply.Words reply) }
+        ensures { (a : Active) (rest : List Active) → self.old.active ≡ a ∷ rest
+            → self.new ≡ handed (noted self.old.books (Entry.Finished a.call.number reply))
+            self.old.answer rest (Reply.Words reply) }
     {
         let number = self.innermost().number;
         self.entries.push(Entry::Finished {
@@ -271,7 +283,8 @@ impl Calls {
     /// No unit is left: all calls are dropped.
     fn cut(&mut self)
         requires active { (a : Active) × (rest : List Active) × (self.old.active ≡ a ∷ rest) }
-        ensures { (a : Active) (rest : List Active) → self.old.active ≡ a ∷ rest → self.new ≡ cut (over_budget self.old.books a.call) }
+        ensures { (a : Active) (rest : List Active) → self.old.active ≡ a ∷ rest
+            → self.new ≡ cut (over_budget self.old.books a.call) }
     {
         let call = self.innermost();
         self.entries.push(Entry::Refused {
@@ -288,7 +301,9 @@ impl Calls {
     fn ask(&mut self, event: EventId, arg: Words, frame: Words)
         requires unit { 0 < self.old.units }
         requires active { (a : Active) × (rest : List Active) × (self.old.active ≡ a ∷ rest) }
-        ensures { (a : Active) (rest : List Active) → self.old.active ≡ a ∷ rest → self.new ≡ goes_on (waits (record self.old.books { units = self.old.units - 1 }) a.call event arg) self.old.answer rest a.call frame }
+        ensures { (a : Active) (rest : List Active) → self.old.active ≡ a ∷ rest
+            → self.new ≡ goes_on (waits (spent self.old.books) a.call event arg)
+            self.old.answer rest a.call frame }
     {
         let call = self.innermost();
         self.units -= 1;
@@ -318,7 +333,10 @@ impl Calls {
         requires few { length handlers.now ≤ 4 }
         requires unit { 0 < self.old.units }
         requires active { (a : Active) × (rest : List Active) × (self.old.active ≡ a ∷ rest) }
-        ensures { (a : Active) (rest : List Active) (table : Table) → self.old.active ≡ a ∷ rest → resolve table event ≡ handlers.now → self.new ≡ outcome_effect (attempts_of decl.now table) (record self.old.books { units = self.old.units - 1 }) self.old.answer rest a.call (Outcome.Call event arg frame) }
+        ensures { (a : Active) (rest : List Active) (table : Table)
+            → self.old.active ≡ a ∷ rest → resolve table event ≡ handlers.now
+            → self.new ≡ outcome_effect (attempts_of decl.now table) (spent self.old.books)
+            self.old.answer rest a.call (Outcome.Call event arg frame) }
     {
         let call = self.innermost();
         self.units -= 1;
@@ -358,45 +376,5 @@ impl Calls {
         ensures { result ≡ slice_get self.now.entries at }
     {
         self.entries.at(at)
-    }
-}
-
-/// The innermost call waits for a reply, with this frame.
-fn wait(active: &mut Vec<Active>, frame: Words)
-    requires { 0 < length active.old.items }
-    ensures waits { (a : Active) (rest : List Active) → reverse active.old.items ≡ a ∷ rest → reverse active.new.items ≡ at_frame a.call frame ∷ rest }
-    ensures len { length active.new.items ≡ length active.old.items }
-    ensures capacity { vec_capacity active.new ≡ vec_capacity active.old }
-{
-    let last = active.len() - 1;
-    active[last].due = Due::Frame(frame);
-}
-
-/// The innermost call goes on with this frame and this reply.
-fn go_on(active: &mut Vec<Active>, frame: Words, reply: Reply)
-    requires { 0 < length active.old.items }
-    ensures goes_on { (a : Active) (rest : List Active) → reverse active.old.items ≡ a ∷ rest → reverse active.new.items ≡ at_moment a.call (resume a.call frame reply) ∷ rest }
-    ensures len { length active.new.items ≡ length active.old.items }
-    ensures capacity { vec_capacity active.new ≡ vec_capacity active.old }
-{
-    let last = active.len() - 1;
-    let handler = active[last].call.handler.index;
-    active[last].due = Due::Next(Moment::Resume {
-        handler,
-        frame,
-        reply,
-    });
-}
-
-/// The innermost call is given a reply, where it waits for one.
-fn hand(active: &mut Vec<Active>, reply: Reply)
-    requires { 0 < length active.old.items }
-    ensures given { (a : Active) (rest : List Active) → reverse active.old.items ≡ a ∷ rest → reverse active.new.items ≡ given a.call a.due reply ∷ rest }
-    ensures len { length active.new.items ≡ length active.old.items }
-    ensures capacity { vec_capacity active.new ≡ vec_capacity active.old }
-{
-    let last = active.len() - 1;
-    if let Due::Frame(frame) = active[last].due {
-        go_on(active, frame, reply);
     }
 }

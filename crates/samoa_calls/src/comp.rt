@@ -1,5 +1,5 @@
 //! A computation with the number of its declaration.
-ghost use Rattle.std.specs.Prelude.{◌≡◌, ◌<◌, ◌≤◌, ◌↔◌, List, [], ◌∷◌, length, IfOk, IsTrue, slice_get};
+ghost use Rattle.std.specs.Prelude.{◌≡◌, ◌<◌, ◌≤◌, ◌↔◌, List, [], ◌∷◌, length, IfOk, IsSome, IsTrue, slice_get};
 ghost use Rattle.samoa_model.specs.Range.{IsSet};
 ghost use Rattle.samoa_model.specs.Scripts.{Table, resolve};
 ghost use Rattle.samoa_serial.specs.declared.call.Active.{Active};
@@ -58,7 +58,8 @@ impl Comp {
         requires set { IsSet decl.now }
         requires few { length handlers.now ≤ 4 }
         requires fresh { self.old.comp ≡ fresh self.old.units }
-        ensures started { (table : Table) → resolve table event ≡ handlers.now → self.new ≡ record self.old { comp = start (attempts_of decl.now table) self.old.units event arg } }
+        ensures started { (table : Table) → resolve table event ≡ handlers.now
+            → self.new ≡ record self.old { comp = start (attempts_of decl.now table) self.old.units event arg } }
         ensures none_waits { self.new.waiting ≡ [] }
     {
         self.calls.start(decl, handlers, event, arg);
@@ -66,7 +67,8 @@ impl Comp {
 
     /// The microprotocol and the moment of the next handler step, None exactly where nothing is left. It takes no memory.
     pub fn next(&self) -> Option<(MicroId, Moment)>
-        ensures { result ≡ next_moment self.now.comp }
+        ensures next { result ≡ next_moment self.now.comp }
+        ensures active { IsSome result → (a : Active) × (rest : List Active) × (self.now.active ≡ a ∷ rest) }
     {
         self.calls.next()
     }
@@ -86,8 +88,11 @@ impl Comp {
         requires epoch { epoch < length (epochs_of tables.now node) }
         requires waiting_named { AreNamed (table_at tables.now node epoch) self.old.waiting }
         requires named { IsNamed (table_at tables.now node epoch) outcome }
-        ensures taken { self.new ≡ record self.old { comp = take_outcome (attempts_of decl.now (table_at tables.now node epoch)) self.old.comp outcome } }
-        ensures ended { (a : Active) (rest : List Active) → self.old.active ≡ a ∷ rest → result ≡ ended_at a.call outcome }
+        ensures taken { self.new ≡ record self.old {
+          comp = take_outcome (attempts_of decl.now (table_at tables.now node epoch)) self.old.comp outcome;
+        } }
+        ensures ended { (a : Active) (rest : List Active) → self.old.active ≡ a ∷ rest
+            → result ≡ ended_at a.call outcome }
         ensures named { AreNamed (table_at tables.now node epoch) self.new.waiting }
     {
         self.calls.take_outcome(decl, tables, node, epoch, outcome)

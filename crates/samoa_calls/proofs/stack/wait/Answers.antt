@@ -2,7 +2,7 @@ use Rattle.std.proofs.Common.{◌≡◌, ◌∷◌, ap, ◌∙◌, arith}
 use Rattle.samoa_serial.specs.declared.call.Active.{Active}
 use Rattle.samoa_serial.specs.Calls.{at_frame}
 use Rattle.samoa_calls.proofs.Taken.{last_is, last_set}
-use Rattle.samoa_calls.proofs.calls.wait.Goals as goal
+use Rattle.samoa_calls.proofs.stack.wait.Goals as goal
 
 pub returns-clause-waits : goal.returns-clause-waits
 returns-clause-waits c = λ a rest e.

@@ -1,6 +1,6 @@
 use Rattle.std.proofs.Common.{arith, ◌∙◌}
 use Rattle.samoa_calls.proofs.Made.{entries_step}
-use Rattle.samoa_calls.proofs.accept.enter.Goals as goal
+use Rattle.samoa_calls.proofs.attempt.enter.Goals as goal
 
 pub loop-handler-preserved : goal.loop-handler-preserved
 loop-handler-preserved c = record {

@@ -1,6 +1,6 @@
 use Rattle.std.proofs.Common.{◌≡◌, ◌+◌, ◌++◌, map, take}
 use Rattle.samoa_serial.specs.World.{calls_from, entry_of}
-use Rattle.samoa_calls.proofs.accept.enter.Given as goal
+use Rattle.samoa_calls.proofs.attempt.enter.Given as goal
 
 abbrev pub invariant-loop-handler : goal.invariant-loop-handler
 invariant-loop-handler l = record {

@@ -1,7 +1,7 @@
 use Rattle.std.proofs.Common.{◌≡◌, ◌≤◌, ◌+◌, ◌++◌, length, reverse, drop, vec_capacity}
 use Rattle.samoa_serial.specs.World.{calls_from}
 use Rattle.samoa_serial.specs.Calls.{to_begin}
-use Rattle.samoa_calls.proofs.accept.activate.Given as goal
+use Rattle.samoa_calls.proofs.stack.activate.Given as goal
 
 abbrev pub invariant-loop-left : goal.invariant-loop-left
 invariant-loop-left l = record {

@@ -3,7 +3,7 @@ use Rattle.samoa_model.specs.declared.handler.Moment.{Moment}
 use Rattle.samoa_serial.specs.declared.call.Active.{Active}
 use Rattle.samoa_serial.specs.Calls.{at_moment}
 use Rattle.samoa_calls.proofs.Taken.{last_is, last_set}
-use Rattle.samoa_calls.proofs.calls.go_on.Goals as goal
+use Rattle.samoa_calls.proofs.stack.go_on.Goals as goal
 
 pub returns-clause-goes_on : goal.returns-clause-goes_on
 returns-clause-goes_on c = λ a rest e.
