@@ -1,0 +1,7 @@
+//! Binding tables: the handlers that each event has, by node and by epoch.
+#![tactic(auto)]
+
+mod epochs;
+mod tables;
+
+pub use tables::Tables;

@@ -1,0 +1,7 @@
+pub mod Made
+pub mod Named
+pub mod Nexts
+pub mod Passes
+pub mod Taken
+pub mod Tries
+pub mod Wakes

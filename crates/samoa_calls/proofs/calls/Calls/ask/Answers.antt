@@ -1,0 +1,25 @@
+use Rattle.std.proofs.Common.{arith, ap, ◌∙◌}
+use Rattle.samoa_serial.specs.Calls.{Computation}
+use Rattle.samoa_model.specs.Entries.{calls_made}
+use Rattle.samoa_calls.proofs.Made.{calls_made-append, length_of_reverse}
+use Rattle.samoa_calls.proofs.calls.Calls.ask.Goals as goal
+
+pub go_on-requires : goal.go_on-requires
+go_on-requires c =
+    let nonempty = length_of_reverse c.self.inside.active.items _ _ (ap (λ (x : Computation). x.active) c.self.view_is ∙ c.requires.active.2) in
+    omega arith
+
+pub invariant_of-self : goal.invariant_of-self
+invariant_of-self c =
+    let made_now = simp calls_made-append at (ap calls_made c.push.ensures.entries) in
+    let entered = c.push.ensures.len in
+    let units_are = ap (λ (x : Computation). x.units) c.self.view_is in
+    record {
+      taken = omega arith;
+      made = omega (arith, made_now);
+      active_room = omega (arith, units_are);
+      waiting_room = omega (arith, units_are);
+      entries_room = omega (arith, units_are);
+      numbers = omega (arith, units_are);
+      root = λ none. absurd (omega (arith, entered));
+    }

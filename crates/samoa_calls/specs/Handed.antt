@@ -1,0 +1,56 @@
+-- What contracts of a computation speak of beside the computation itself.
+use Rattle.std.specs.Prelude.{ℕ, ◌<◌, ◌-◌, List, [], ◌∷◌, Option, Some, None, All, length, option_map}
+use Rattle.samoa_model.specs.declared.handler.Reply.{Reply}
+use Rattle.samoa_model.specs.declared.handler.Moment.{Moment}
+use Rattle.samoa_model.specs.declared.handler.Outcome.{Outcome}
+use Rattle.samoa_model.specs.declared.record.Ending.{Ending}
+use Rattle.samoa_serial.specs.declared.call.Active.{Active}
+use Rattle.samoa_serial.specs.declared.call.Waiting.{Waiting}
+use Rattle.samoa_serial.specs.declared.call.Call.{Call}
+use Rattle.samoa_model.specs.declared.ids.MicroId.{MicroId}
+use Rattle.samoa_serial.specs.World.{Books}
+use Rattle.samoa_serial.specs.Calls.{Computation, first_answer, given}
+use Rattle.samoa_serial.specs.Alone.{next_step}
+use Rattle.samoa_model.specs.Scripts.{Table}
+
+-- the call that waits for the reply has it; where none is active it is the answer, and the waiting calls still wait
+abbrev pub handed : Books → Option Ending → List Active → Reply → Computation
+handed books answer [] reply = record { active = []; books = books; answer = first_answer answer reply }
+handed books answer (a ∷ rest) reply = record { active = given a.call a.due reply ∷ rest; books = books; answer = answer }
+
+-- with one unit less
+abbrev pub spent : Books → Books
+spent books = record books { units = books.units - 1 }
+
+-- the events that a list of waiting calls names, and that an outcome names, are in the table
+abbrev pub AreNamed : Table → List Waiting → Type 0
+AreNamed table waiting = All (λ w. w.event.0 < length table) waiting
+
+abbrev pub IsNamed : Table → Outcome → Type 0
+IsNamed table (Outcome.Call event arg frame) = event.0 < length table
+IsNamed table (Outcome.Later event arg frame) = event.0 < length table
+IsNamed table (Outcome.Done reply) = Unit {0}
+IsNamed table (Outcome.Send to event arg frame) = Unit {0}
+IsNamed table (Outcome.Deliver arg frame) = Unit {0}
+IsNamed table (Outcome.Change change arg frame) = Unit {0}
+
+-- the microprotocol of a call that this outcome ends
+abbrev pub ended_at : Call → Outcome → Option MicroId
+ended_at c (Outcome.Done reply) = Some c.handler.micro
+ended_at c _ = None
+
+-- a computation that wasn't started, with this budget
+abbrev pub fresh : ℕ → Computation
+fresh budget = record { active = []; books = record { units = budget; waiting = []; entries = [] }; answer = None }
+
+-- the microprotocol and the moment of the next handler step
+abbrev pub next_moment : Computation → Option (MicroId × Moment)
+next_moment comp = option_map (λ step. (step.0.handler.micro, step.1)) (next_step comp)
+
+-- the answer, once no call is active and none waits
+abbrev pub ending_at : List Active → List Waiting → Option Ending → Option Ending
+ending_at [] [] answer = answer
+ending_at active waiting answer = None
+
+abbrev pub ending_of : Computation → Option Ending
+ending_of comp = ending_at comp.active comp.waiting comp.answer

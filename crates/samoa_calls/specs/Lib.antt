@@ -1,0 +1,4 @@
+pub mod Handed
+pub mod Held
+pub mod Kept
+pub mod Tried

@@ -1,0 +1,380 @@
+//! The calls of a computation, as an explicit list of the active ones.
+ghost use Rattle.std.specs.Prelude.{◌≡◌, ◌<◌, ◌≤◌, ◌↔◌, List, [], ◌∷◌, length, None, false, IfOk, IsSome, IsTrue, slice_get};
+ghost use Rattle.samoa_model.specs.Entries.{calls_made};
+ghost use Rattle.samoa_model.specs.Range.{IsSet};
+ghost use Rattle.samoa_model.specs.Scripts.{Table, resolve};
+ghost use Rattle.samoa_serial.specs.declared.call.Active.{Active};
+ghost use Rattle.samoa_serial.specs.declared.call.Call.{Call};
+ghost use Rattle.samoa_serial.specs.World.{attempts_of, noted, over_budget, waits};
+ghost use Rattle.samoa_serial.specs.Calls.{cut, goes_on, outcome_effect, start, take_outcome, woken};
+ghost use Rattle.samoa_bind.specs.Bound.{epochs_of, table_at};
+ghost use Rattle.samoa_calls.specs.Handed.{AreNamed, IsNamed, ended_at, ending_of, fresh, handed, next_moment, spent};
+
+use crate::attempt::attempt;
+use crate::stack::{go_on, hand, wait};
+use samoa_bind::Tables;
+use samoa_model::{
+    Decl, Ending, Entry, EventId, HandlerId, MicroId, Moment, NoMemory, NodeId, Outcome, Refusal,
+    Reply, Words,
+};
+use samoa_serial::{Active, Call, Due, Waiting};
+use samoa_transcript::Transcript;
+use std::alloc::Global;
+use std::marker::Model;
+
+/// The innermost active call stands last. Of `waiting` the first `taken` were taken out.
+#[derive(Drop)]
+pub(crate) struct Calls {
+    active: Vec<Active>,
+    waiting: Vec<Waiting>,
+    taken: usize,
+    units: u32,
+    made: u32,
+    entries: Transcript,
+    answer: Option<Ending>,
+}
+
+impl Model for Calls {
+    ghost use Rattle.samoa_serial.specs.Calls.{Computation};
+
+    ghost Value = { Computation };
+
+    ghost use Rattle.samoa_calls.specs.Kept.{computation_of, IsKept};
+
+    ghost view = { computation_of };
+
+    ghost invariant = { IsKept };
+}
+
+impl Calls {
+    /// Nothing is active and nothing waits. All room is made that the budget can come to.
+    pub(crate) fn new(alloc: Global, budget: u32) -> Result<Calls, NoMemory>
+        requires { budget ≤ 256 }
+        ensures { IfOk result (λ calls. calls ≡ fresh budget) }
+    {
+        let most = budget as usize;
+        let active = Vec::with_capacity(alloc, 4 * most + 4)?;
+        let waiting = Vec::with_capacity(alloc, most)?;
+        let entries = Transcript::new(alloc, 9 * most + 8)?;
+        Ok(Calls {
+            active,
+            waiting,
+            taken: 0,
+            units: budget,
+            made: 0,
+            entries,
+            answer: None,
+        })
+    }
+
+    /// The root call is attempted.
+    pub(crate) fn start(&mut self, decl: &Decl, handlers: &[HandlerId], event: EventId, arg: Words)
+        requires set { IsSet decl.now }
+        requires few { length handlers.now ≤ 4 }
+        requires fresh { self.old ≡ fresh self.old.units }
+        ensures none_waits { self.new.waiting ≡ [] }
+        ensures started { (table : Table) → resolve table event ≡ handlers.now
+            → self.new ≡ start (attempts_of decl.now table) self.old.units event arg }
+    {
+        let refused = attempt(
+            &mut self.active,
+            &mut self.entries,
+            self.made,
+            decl,
+            handlers,
+            None,
+            event,
+            arg,
+        );
+        match refused {
+            None => self.made += handlers.len() as u32,
+            Some(refusal) => self.answer = Some(Ending::Replied(Reply::Refused(refusal))),
+        }
+    }
+
+    /// The next handler step, None exactly where nothing is active.
+    pub(crate) fn next(&self) -> Option<(MicroId, Moment)>
+        ensures next { result ≡ next_moment self.now }
+        ensures active { IsSome result → (a : Active) × (rest : List Active) × (self.now.active ≡ a ∷ rest) }
+    {
+        if self.is_idle() {
+            return None;
+        }
+        let innermost = &self.active[self.active.len() - 1];
+        match &innermost.due {
+            Due::Next(moment) => Some((innermost.call.handler.micro, *moment)),
+            Due::Frame(_) => None,
+        }
+    }
+
+    /// The innermost call gave this outcome. Answers its microprotocol where it has ended.
+    pub(crate) fn take_outcome(
+        &mut self,
+        decl: &Decl,
+        tables: &Tables,
+        node: NodeId,
+        epoch: u32,
+        outcome: Outcome,
+    ) -> Option<MicroId>
+        requires set { IsSet decl.now }
+        requires active { (a : Active) × (rest : List Active) × (self.old.active ≡ a ∷ rest) }
+        requires epoch { epoch < length (epochs_of tables.now node) }
+        requires waiting_named { AreNamed (table_at tables.now node epoch) self.old.waiting }
+        requires named { IsNamed (table_at tables.now node epoch) outcome }
+        ensures taken { self.new
+            ≡ take_outcome (attempts_of decl.now (table_at tables.now node epoch)) self.old outcome }
+        ensures ended { (a : Active) (rest : List Active) → self.old.active ≡ a ∷ rest
+            → result ≡ ended_at a.call outcome }
+    {
+        let micro = self.innermost().handler.micro;
+        match outcome {
+            Outcome::Done { reply } => {
+                self.finish(reply);
+                if self.is_idle() {
+                    self.wake(decl, tables, node, epoch);
+                }
+                Some(micro)
+            }
+            _ => {
+                if self.units == 0 {
+                    self.cut();
+                } else {
+                    self.spend(decl, tables, node, epoch, outcome);
+                }
+                None
+            }
+        }
+    }
+
+    /// An outcome other than Done takes effect, for a unit.
+    fn spend(&mut self, decl: &Decl, tables: &Tables, node: NodeId, epoch: u32, outcome: Outcome)
+        requires set { IsSet decl.now }
+        requires unit { 0 < self.old.units }
+        requires active { (a : Active) × (rest : List Active) × (self.old.active ≡ a ∷ rest) }
+        requires epoch { epoch < length (epochs_of tables.now node) }
+        requires named { IsNamed (table_at tables.now node epoch) outcome }
+        requires not_done { (c : Call) → ended_at c outcome ≡ None }
+        ensures { (a : Active) (rest : List Active) → self.old.active ≡ a ∷ rest
+            → self.new ≡ outcome_effect (attempts_of decl.now (table_at tables.now node epoch))
+            (spent self.old.books) self.old.answer rest a.call outcome }
+    {
+        let call = self.innermost();
+        match outcome {
+            Outcome::Done { reply: _ } => unreachable!(),
+            Outcome::Call { event, arg, frame } => {
+                let handlers = tables.resolve(node, epoch, event);
+                self.call(decl, handlers, event, arg, frame);
+            }
+            Outcome::Later { event, arg, frame } => self.ask(event, arg, frame),
+            Outcome::Send {
+                to,
+                event,
+                arg,
+                frame,
+            } => {
+                let entry = Entry::Sent {
+                    call: call.number,
+                    to,
+                    event,
+                    arg,
+                };
+                self.note(entry, frame);
+            }
+            Outcome::Deliver { arg, frame } => {
+                let entry = Entry::Delivered {
+                    call: call.number,
+                    micro: call.handler.micro,
+                    arg,
+                };
+                self.note(entry, frame);
+            }
+            Outcome::Change { change, arg, frame } => {
+                let entry = Entry::Asked {
+                    call: call.number,
+                    change,
+                    arg,
+                };
+                self.note(entry, frame);
+            }
+        }
+    }
+
+    fn innermost(&self) -> Call
+        requires active { (a : Active) × (rest : List Active) × (self.now.active ≡ a ∷ rest) }
+        ensures { (a : Active) (rest : List Active) → self.now.active ≡ a ∷ rest → result ≡ a.call }
+    {
+        self.active[self.active.len() - 1].call
+    }
+
+    fn is_idle(&self) -> bool
+        ensures idle { IsTrue result → self.now.active ≡ [] }
+        ensures active { result ≡ false
+            → (a : Active) × (rest : List Active) × (self.now.active ≡ a ∷ rest) }
+    {
+        self.active.is_empty()
+    }
+
+    /// The innermost call goes on with its frame and the empty list; its outcome was noted, for a unit.
+    fn note(&mut self, entry: Entry, frame: Words)
+        requires unit { 0 < self.old.units }
+        requires no_call { calls_made (entry ∷ []) ≡ 0 }
+        requires active { (a : Active) × (rest : List Active) × (self.old.active ≡ a ∷ rest) }
+        ensures { (a : Active) (rest : List Active) → self.old.active ≡ a ∷ rest
+            → self.new ≡ goes_on (noted (spent self.old.books) entry) self.old.answer rest a.call frame }
+    {
+        self.units -= 1;
+        self.entries.push(entry);
+        go_on(&mut self.active, frame, Reply::Words(Words::new()));
+    }
+
+    /// The waiting calls are attempted until one is accepted or none waits.
+    fn wake(&mut self, decl: &Decl, tables: &Tables, node: NodeId, epoch: u32)
+        requires set { IsSet decl.now }
+        requires idle { self.old.active ≡ [] }
+        requires epoch { epoch < length (epochs_of tables.now node) }
+        requires names { AreNamed (table_at tables.now node epoch) self.old.waiting }
+        ensures { self.new ≡ woken (attempts_of decl.now (table_at tables.now node epoch))
+            self.old.waiting self.old.books self.old.answer }
+    {
+        while self.taken < self.waiting.len() {
+            let first = self.waiting[self.taken];
+            self.taken += 1;
+            let handlers = tables.resolve(node, epoch, first.event);
+            let refused = attempt(
+                &mut self.active,
+                &mut self.entries,
+                self.made,
+                decl,
+                handlers,
+                Some(first.asker),
+                first.event,
+                first.arg,
+            );
+            match refused {
+                Some(_) => {}
+                None => {
+                    self.made += handlers.len() as u32;
+                    return;
+                }
+            }
+        }
+    }
+
+    /// The innermost call has ended, and its reply is handed on.
+    fn finish(&mut self, reply: Words)
+        requires active { (a : Active) × (rest : List Active) × (self.old.active ≡ a ∷ rest) }
+        ensures { (a : Active) (rest : List Active) → self.old.active ≡ a ∷ rest
+            → self.new ≡ handed (noted self.old.books (Entry.Finished a.call.number reply))
+            self.old.answer rest (Reply.Words reply) }
+    {
+        let number = self.innermost().number;
+        self.entries.push(Entry::Finished {
+            call: number,
+            reply,
+        });
+        self.active.pop();
+        if !self.active.is_empty() {
+            hand(&mut self.active, Reply::Words(reply));
+        } else if self.answer.is_none() {
+            self.answer = Some(Ending::Replied(Reply::Words(reply)));
+        }
+    }
+
+    /// No unit is left: all calls are dropped.
+    fn cut(&mut self)
+        requires active { (a : Active) × (rest : List Active) × (self.old.active ≡ a ∷ rest) }
+        ensures { (a : Active) (rest : List Active) → self.old.active ≡ a ∷ rest
+            → self.new ≡ cut (over_budget self.old.books a.call) }
+    {
+        let call = self.innermost();
+        self.entries.push(Entry::Refused {
+            caller: call.number,
+            event: None,
+            refusal: Refusal::OverBudget,
+        });
+        self.active.clear();
+        self.taken = self.waiting.len();
+        self.answer = Some(Ending::Cut);
+    }
+
+    /// The innermost call asked for a call that waits, for a unit, and goes on.
+    fn ask(&mut self, event: EventId, arg: Words, frame: Words)
+        requires unit { 0 < self.old.units }
+        requires active { (a : Active) × (rest : List Active) × (self.old.active ≡ a ∷ rest) }
+        ensures { (a : Active) (rest : List Active) → self.old.active ≡ a ∷ rest
+            → self.new ≡ goes_on (waits (spent self.old.books) a.call event arg)
+            self.old.answer rest a.call frame }
+    {
+        let call = self.innermost();
+        self.units -= 1;
+        self.waiting.push_reserved(Waiting {
+            asker: call,
+            event,
+            arg,
+        });
+        self.entries.push(Entry::Waiting {
+            call: call.number,
+            event,
+            arg,
+        });
+        go_on(&mut self.active, frame, Reply::Words(Words::new()));
+    }
+
+    /// The innermost call called an event that has these handlers, for a unit.
+    fn call(
+        &mut self,
+        decl: &Decl,
+        handlers: &[HandlerId],
+        event: EventId,
+        arg: Words,
+        frame: Words,
+    )
+        requires set { IsSet decl.now }
+        requires few { length handlers.now ≤ 4 }
+        requires unit { 0 < self.old.units }
+        requires active { (a : Active) × (rest : List Active) × (self.old.active ≡ a ∷ rest) }
+        ensures { (a : Active) (rest : List Active) (table : Table)
+            → self.old.active ≡ a ∷ rest → resolve table event ≡ handlers.now
+            → self.new ≡ outcome_effect (attempts_of decl.now table) (spent self.old.books)
+            self.old.answer rest a.call (Outcome.Call event arg frame) }
+    {
+        let call = self.innermost();
+        self.units -= 1;
+        wait(&mut self.active, frame);
+        let refused = attempt(
+            &mut self.active,
+            &mut self.entries,
+            self.made,
+            decl,
+            handlers,
+            Some(call),
+            event,
+            arg,
+        );
+        match refused {
+            None => self.made += handlers.len() as u32,
+            Some(refusal) => go_on(&mut self.active, frame, Reply::Refused(refusal)),
+        }
+    }
+
+    /// Whether nothing is active and nothing waits.
+    pub(crate) fn is_over(&self) -> bool
+        ensures { IsTrue result ↔ ((self.now.active ≡ []) × (self.now.waiting ≡ [])) }
+    {
+        self.active.is_empty() && self.taken == self.waiting.len()
+    }
+
+    /// The answer, None where something is active or waits.
+    pub(crate) fn ending(&self) -> Option<Ending>
+        ensures { result ≡ ending_of self.now }
+    {
+        if self.is_over() { self.answer } else { None }
+    }
+
+    /// An entry, None exactly past the last of them.
+    pub(crate) fn entry(&self, at: usize) -> Option<Entry>
+        ensures { result ≡ slice_get self.now.entries at }
+    {
+        self.entries.at(at)
+    }
+}
