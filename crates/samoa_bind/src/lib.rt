@@ -5,3 +5,6 @@ mod epochs;
 mod tables;
 
 pub use tables::Tables;
+
+#[cfg(test)]
+mod tests;

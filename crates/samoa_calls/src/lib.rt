@@ -7,3 +7,6 @@ mod comp;
 mod stack;
 
 pub use comp::Comp;
+
+#[cfg(test)]
+mod tests;
