@@ -3,9 +3,7 @@ ghost use Rattle.std.specs.Prelude.{◌≡◌, ◌++◌, OnOk, OnErr};
 ghost use Rattle.std.specs.Io.{StartsWith};
 ghost use Rattle.samoa_serial.specs.Lines.{entry_text, accepted_text, finished_text, refusal_line, waiting_text, sent_text, delivered_text, asked_text, handler_text, dest_text};
 
-use crate::names::{
-    change_name, event_name, handler_name, micro_name, refusal_name, refused_name,
-};
+use crate::names::{change_name, event_name, handler_name, micro_name, refusal_name, refused_name};
 use crate::push::{push_head, push_number, push_text, push_words, whole_or_cut};
 use samoa_model::{
     ChangeId, Dest, Entry, EventId, HandlerId, MicroId, NoMemory, Refusal, Script, Words,

@@ -8,7 +8,6 @@ ghost use Rattle.samoa_serial.specs.Lines.{ext_text, end_text, state_text, total
 mod entries;
 mod names;
 mod push;
-
 #[cfg(test)]
 mod tests;
 

@@ -126,7 +126,11 @@ fn call_rows() -> [Row; 7] {
         (accepted(2, none), b"C 7 1 0 ab.\n", false),
         (finished, b"Y 7 10 1 18446744073709551615\n", false),
         (waiting, b"W 7 3 halt\n", false),
-        (sent(Dest::One(NodeId(1)), two), b"M 7 4 1 go 1 18446744073709551615\n", false),
+        (
+            sent(Dest::One(NodeId(1)), two),
+            b"M 7 4 1 go 1 18446744073709551615\n",
+            false,
+        ),
         (sent(Dest::All, none), b"M 7 4 * go\n", false),
         (asked, b"A 7 6 to_b 1 18446744073709551615\n", false),
     ]
@@ -145,11 +149,31 @@ fn other_rows() -> [Row; 7] {
     };
     let halt = Some(EventId(1));
     [
-        (refused(2, None, Refusal::OverBudget), b"X 7 2 - OverBudget\n", true),
-        (refused(0, halt, Refusal::Unbound), b"X 7 0 halt Unbound\n", true),
-        (refused(2, halt, Refusal::Undeclared), b"X 7 2 halt Undeclared\n", true),
-        (refused(2, halt, Refusal::OverBound), b"X 7 2 halt OverBound\n", true),
-        (refused(2, halt, Refusal::OffRoute), b"X 7 2 halt OffRoute\n", true),
+        (
+            refused(2, None, Refusal::OverBudget),
+            b"X 7 2 - OverBudget\n",
+            true,
+        ),
+        (
+            refused(0, halt, Refusal::Unbound),
+            b"X 7 0 halt Unbound\n",
+            true,
+        ),
+        (
+            refused(2, halt, Refusal::Undeclared),
+            b"X 7 2 halt Undeclared\n",
+            true,
+        ),
+        (
+            refused(2, halt, Refusal::OverBound),
+            b"X 7 2 halt OverBound\n",
+            true,
+        ),
+        (
+            refused(2, halt, Refusal::OffRoute),
+            b"X 7 2 halt OffRoute\n",
+            true,
+        ),
         (delivered, b"D 7 c 0 9\n", true),
         (nowhere, b"D 7 \n", true),
     ]
@@ -177,7 +201,10 @@ fn prints_entries(rt: HostRuntime) -> Result<(), Fail> {
 }
 
 fn check_exts(script: &Script, out: &mut Vec<u8>) -> Result<(), NoMemory> {
-    for (node, cause) in [(0, Cause::Event(EventId(1))), (1, Cause::Change(ChangeId(0)))] {
+    for (node, cause) in [
+        (0, Cause::Event(EventId(1))),
+        (1, Cause::Change(ChangeId(0))),
+    ] {
         let ext = Ext {
             node: NodeId(node),
             tick: 12,

@@ -17,7 +17,7 @@ one d = array (item d no_items)
 abbrev code : Data
 code =
     object (member (codes "code") (array (item (array (item (string (codes "copy")) (item (string (codes "r0")) (item (string (codes "x1")) no_items))))
-        (item (array (item (string (codes "deliver")) (item (number (unsigned 2)) no_items))) no_items)))
+    (item (array (item (string (codes "deliver")) (item (number (unsigned 2)) no_items))) no_items)))
     (member (codes "name") (string (codes "h")) no_members))
 
 -- {"handlers":[..],"kind":"prog","name":"m"}

@@ -8,7 +8,7 @@ use Rattle.samoa_model.specs.declared.setup.Instr.{Instr}
 use Rattle.samoa_model.specs.declared.setup.Instr.TheVariants.{Copy, Add, Deliver, Done}
 use Rattle.samoa_script.specs.Tree.{list_of, is_list, text_of, is_text, number_of, is_number_within}
 
--- the place at letter and digit
+-- the place with a letter, r (114) or x (120), and a digit from 0 (48) to 3 (51)
 abbrev pub place_at : ℕ → ℕ → Option Place
 place_at letter digit = if nat_le 48 digit && nat_le digit 51 then (if letter == 114 then Some (Reg (digit - 48)) else (if letter == 120 then Some (Local (digit - 48)) else None)) else None
 

@@ -12,10 +12,11 @@ is_name d = is_text d && is_script_name (text_of d)
 abbrev pub is_the_text : List ℕ → Data → Bool
 is_the_text name d = is_text d && bytes_eq (text_of d) name
 
+-- the byte `.`
 abbrev pub is_dot : ℕ → Bool
 is_dot c = c == 46
 
--- a handler name is two names joined by one dot
+-- what stands before the first dot and after it. A name has none, so a handler name is two names joined by one dot
 abbrev pub micro_part : List ℕ → List ℕ
 micro_part text = before_first is_dot text
 
