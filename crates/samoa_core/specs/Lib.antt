@@ -1,1 +1,6 @@
 pub mod Course
+pub mod Fields
+pub mod Home
+pub mod Kept
+pub mod Opened
+pub mod Slots

@@ -1,0 +1,104 @@
+-- Lists with one row after another.
+use Rattle.std.proofs.Common.{◌≡◌, ◌≢◌, ◌⊎◌, inl, inr, ℕ, zero, suc, ◌+◌, ◌*◌, ◌<◌, ◌≤◌, refl, sym, ap, ◌∙◌, List, [], ◌∷◌, ◌++◌, length, set, Option, Some, None, length-append, arith, subst}
+use Rattle.std.specs.Prelude.{slice_get}
+use Rattle.std.proofs.lemmas.Nat.{mul-add-lt, same_from_place}
+use Rattle.samoa_core.specs.Slots.{Grid}
+
+set-same : {A : Type 0} (xs : List A) (i : ℕ) (x : A) → i < length xs → slice_get (set xs i x) i ≡ Some x
+set-same [] i x lt = absurd (omega (arith, lt))
+set-same (y ∷ ys) zero x lt = refl
+set-same (y ∷ ys) (suc i) x lt = set-same ys i x (omega (arith, lt))
+
+set-other : {A : Type 0} (xs : List A) (i j : ℕ) (x : A) → j ≢ i → slice_get (set xs i x) j ≡ slice_get xs j
+set-other [] i j x ne = refl
+set-other (y ∷ ys) zero zero x ne = absurd (ne refl)
+set-other (y ∷ ys) zero (suc j) x ne = refl
+set-other (y ∷ ys) (suc i) zero x ne = refl
+set-other (y ∷ ys) (suc i) (suc j) x ne = set-other ys i j x (λ e. ne (ap suc e))
+
+length-set : {A : Type 0} (xs : List A) (i : ℕ) (x : A) → length (set xs i x) ≡ length xs
+length-set [] i x = refl
+length-set (y ∷ ys) zero x = refl
+length-set (y ∷ ys) (suc i) x = ap suc (length-set ys i x)
+
+pub same_or_not : (a b : ℕ) → (a ≡ b) ⊎ (a ≢ b)
+same_or_not zero zero = inl refl
+same_or_not zero (suc b) = inr (λ e. omega (arith, e))
+same_or_not (suc a) zero = inr (λ e. omega (arith, e))
+same_or_not (suc a) (suc b) = go (same_or_not a b)
+  where
+    go : (a ≡ b) ⊎ (a ≢ b) → (suc a ≡ suc b) ⊎ (suc a ≢ suc b)
+    go (inl e) = inl (ap suc e)
+    go (inr ne) = inr (λ e. ne (omega (arith, e)))
+
+pub cell_or_not : (i v j p : ℕ) → ((i ≡ v) × (j ≡ p)) ⊎ ((i ≢ v) ⊎ (j ≢ p))
+cell_or_not i v j p = go (same_or_not i v) (same_or_not j p)
+  where
+    go : (i ≡ v) ⊎ (i ≢ v) → (j ≡ p) ⊎ (j ≢ p) → ((i ≡ v) × (j ≡ p)) ⊎ ((i ≢ v) ⊎ (j ≢ p))
+    go (inl e) (inl f) = inl (e, f)
+    go (inl e) (inr n) = inr (inr n)
+    go (inr n) f = inr (inl n)
+
+pub grid-within : (rows columns v p : ℕ) → v < rows → p < columns → v * columns + p < rows * columns
+grid-within rows columns v p lt below = omega (arith, mul-add-lt v columns p rows lt below)
+
+-- one cell is written
+pub grid-set : {A : Type 0} (rows columns : ℕ) (cells : List A) (f g : ℕ → ℕ → A) (v p : ℕ) (x : A) → v < rows → p < columns → Grid rows columns cells f
+    → g v p ≡ x → ((i j : ℕ) → (i ≢ v) ⊎ (j ≢ p) → g i j ≡ f i j) → Grid rows columns (set cells (v * columns + p) x) g
+grid-set {A = A} rows columns cells f g v p x lt below grid here others =
+    record { size = length-set cells (v * columns + p) x ∙ grid.size; value = λ i j ri cj. go i j ri cj (cell_or_not i v j p) }
+  where
+    go : (i j : ℕ) → i < rows → j < columns → ((i ≡ v) × (j ≡ p)) ⊎ ((i ≢ v) ⊎ (j ≢ p)) → slice_get (set cells (v * columns + p) x) (i * columns + j) ≡ Some (g i j)
+    go i j ri cj (inl e) =
+        let size : length cells ≡ rows * columns = grid.size in
+        let within : v * columns + p < rows * columns = grid-within rows columns v p lt below in
+        let place : i * columns + j ≡ v * columns + p = ap (λ (a : ℕ). a * columns + j) e.0 ∙ ap (λ (b : ℕ). v * columns + b) e.1 in
+        ap (λ (a : ℕ). slice_get (set cells (v * columns + p) x) a) place
+        ∙ (set-same {A = A} cells (v * columns + p) x (omega (arith, within, size))
+        ∙ sym (ap (λ (a : ℕ). Some (g a j)) e.0 ∙ (ap (λ (b : ℕ). Some (g v b)) e.1 ∙ ap (λ (y : A). Some y) here)))
+    go i j ri cj (inr ne) =
+        set-other {A = A} cells (v * columns + p) (i * columns + j) x (apart ne) ∙ (grid.value i j ri cj ∙ ap (λ (y : A). Some y) (sym (others i j ne)))
+      where
+        apart : (i ≢ v) ⊎ (j ≢ p) → i * columns + j ≢ v * columns + p
+        apart (inl n) e = n (same_from_place i j v p columns cj below e).0
+        apart (inr n) e = n (same_from_place i j v p columns cj below e).1
+
+pub grid-same : {A : Type 0} (rows columns : ℕ) (cells : List A) (f g : ℕ → ℕ → A) → ((i j : ℕ) → g i j ≡ f i j) → Grid rows columns cells f
+    → Grid rows columns cells g
+grid-same {A = A} rows columns cells f g e grid =
+    record { size = grid.size; value = λ i j ri cj. grid.value i j ri cj ∙ ap (λ (y : A). Some y) (sym (e i j)) }
+
+slice_get-left : {A : Type 0} (xs ys : List A) (k : ℕ) → k < length xs → slice_get (xs ++ ys) k ≡ slice_get xs k
+slice_get-left [] ys k lt = absurd (omega (arith, lt))
+slice_get-left (x ∷ xs) ys zero lt = refl
+slice_get-left (x ∷ xs) ys (suc k) lt = slice_get-left xs ys k (omega (arith, lt))
+
+slice_get-right : {A : Type 0} (xs ys : List A) (k : ℕ) → slice_get (xs ++ ys) (length xs + k) ≡ slice_get ys k
+slice_get-right [] ys k = ap (λ (n : ℕ). slice_get ys n) (omega arith)
+slice_get-right (x ∷ xs) ys k =
+    let place : suc (length xs) + k ≡ suc (length xs + k) = omega arith in
+    ap (λ (n : ℕ). slice_get (x ∷ (xs ++ ys)) n) place ∙ slice_get-right xs ys k
+
+-- no row
+pub grid-none : {A : Type 0} (columns : ℕ) (f : ℕ → ℕ → A) → Grid 0 columns [] f
+grid-none columns f = record { size = omega arith; value = λ i j ri cj. absurd (omega (arith, ri)) }
+
+-- one more row
+pub grid-row : {A : Type 0} (rows columns : ℕ) (cells row : List A) (f : ℕ → ℕ → A) → Grid rows columns cells f → length row ≡ columns
+    → ((j : ℕ) → j < columns → slice_get row j ≡ Some (f rows j)) → Grid (suc rows) columns (cells ++ row) f
+grid-row {A = A} rows columns cells row f grid as_long each =
+    record {
+      size = (let e : length cells ≡ rows * columns = grid.size in let l = length-append cells row in grind arith);
+      value = λ i j ri cj. go i j ri cj (same_or_not i rows);
+    }
+  where
+    go : (i j : ℕ) → i < suc rows → j < columns → (i ≡ rows) ⊎ (i ≢ rows) → slice_get (cells ++ row) (i * columns + j) ≡ Some (f i j)
+    go i j ri cj (inl e) =
+        ap (λ (a : ℕ). slice_get (cells ++ row) (a * columns + j)) e
+        ∙ (ap (λ (n : ℕ). slice_get (cells ++ row) (n + j)) (sym grid.size)
+        ∙ (slice_get-right {A = A} cells row j ∙ (each j cj ∙ ap (λ (a : ℕ). Some (f a j)) (sym e))))
+    go i j ri cj (inr ne) =
+        let before : i < rows = omega (arith, ri, ne) in
+        let size : length cells ≡ rows * columns = grid.size in
+        let within : i * columns + j < rows * columns = grid-within rows columns i j before cj in
+        slice_get-left {A = A} cells row (i * columns + j) (omega (arith, within, size)) ∙ grid.value i j before cj

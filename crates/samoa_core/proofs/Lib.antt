@@ -1,0 +1,10 @@
+pub mod Draws
+pub mod Grids
+pub mod Heads
+pub mod Keeps
+pub mod Names
+pub mod Points
+pub mod Rules
+pub mod Shows
+pub mod Ended
+pub mod AtHome

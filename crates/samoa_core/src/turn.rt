@@ -1,0 +1,136 @@
+//! One handler step, outside the core.
+ghost use Rattle.std.specs.Prelude.{◌≡◌, false, IfOk, IfErr};
+ghost use Rattle.samoa_serial.specs.Kinds.{after_step, outcome_of};
+
+use samoa_micro::{Held, Micro};
+use samoa_model::{Moment, NoMemory, Outcome};
+use std::alloc::Global;
+use std::marker::Model;
+use std::snapshot::Snapshot;
+
+/// A handler step that has begun: its microprotocol is out of its slot.
+#[derive(Drop)]
+pub struct Turn<B: Micro> {
+    comp: u32,
+    micro: u32,
+    moment: Moment,
+    held: Held<B>,
+}
+
+impl<B: Micro> Model for Turn<B> {
+    ghost use Rattle.std.specs.Prelude.{◌≡◌, false};
+    ghost use Rattle.samoa_core.specs.Course.{Going};
+
+    ghost Value = { Going };
+
+    ghost view = { λ t. record { comp = t.comp; micro = t.micro; moment = t.moment; before = t.held } };
+
+    ghost invariant = { λ t. t.held.fresh ≡ false };
+}
+
+/// A handler step that was made: its microprotocol is still out, and holds its outcome.
+#[derive(Drop)]
+pub struct Ran<B: Micro> {
+    comp: u32,
+    micro: u32,
+    moment: Moment,
+    before: Snapshot<Held<B>>,
+    held: Held<B>,
+    outcome: Outcome,
+}
+
+impl<B: Micro> Model for Ran<B> {
+    ghost use Rattle.std.specs.Prelude.{◌≡◌, false};
+    ghost use Rattle.samoa_serial.specs.Kinds.{after_step, outcome_of};
+    ghost use Rattle.samoa_core.specs.Course.{Going};
+
+    ghost Value = { Going };
+
+    ghost view = { λ r. record { comp = r.comp; micro = r.micro; moment = r.moment; before = r.before.value } };
+
+    ghost invariant = { λ r. (r.held ≡ after_step r.before.value r.moment) × (r.outcome ≡ outcome_of r.before.value r.moment) };
+}
+
+impl<B: Micro> Turn<B> {
+    pub(crate) fn new(comp: u32, micro: u32, moment: Moment, held: Held<B>) -> Turn<B>
+        requires { held.fresh ≡ false }
+        ensures { result ≡ record { comp = comp; micro = micro; moment = moment; before = held } }
+    {
+        Turn {
+            comp,
+            micro,
+            moment,
+            held,
+        }
+    }
+
+    /// The number of its computation.
+    pub fn comp(&self) -> u32
+        ensures { result ≡ self.now.comp }
+    {
+        self.comp
+    }
+
+    /// The number of its microprotocol.
+    pub fn micro(&self) -> u32
+        ensures { result ≡ self.now.micro }
+    {
+        self.micro
+    }
+
+    /// Makes one step of the microprotocol. Where there was no memory, the turn comes back as it was.
+    pub fn run(self, alloc: Global) -> Result<Ran<B>, (Turn<B>, NoMemory)>
+        ensures ok { IfOk result (λ ran. ran ≡ self) }
+        ensures err { IfErr result (λ e. e.0 ≡ self) }
+    {
+        let Turn {
+            comp,
+            micro,
+            moment,
+            mut held,
+        } = self;
+        let before = Snapshot::of(&held);
+        match held.step(alloc, &moment) {
+            Ok(outcome) => Ok(Ran {
+                comp,
+                micro,
+                moment,
+                before,
+                held,
+                outcome,
+            }),
+            Err(fault) => Err((
+                Turn {
+                    comp,
+                    micro,
+                    moment,
+                    held,
+                },
+                fault,
+            )),
+        }
+    }
+}
+
+impl<B: Micro> Ran<B> {
+    pub(crate) fn micro(&self) -> u32
+        ensures { result ≡ self.now.micro }
+    {
+        self.micro
+    }
+
+    pub(crate) fn into_parts(self) -> (Held<B>, Outcome)
+        ensures held { result.0 ≡ after_step self.before self.moment }
+        ensures outcome { result.1 ≡ outcome_of self.before self.moment }
+    {
+        let Ran {
+            comp: _,
+            micro: _,
+            moment: _,
+            before: _before,
+            held,
+            outcome,
+        } = self;
+        (held, outcome)
+    }
+}
