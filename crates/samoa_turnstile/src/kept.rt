@@ -22,5 +22,6 @@ pub trait Kept {
     ghost open_below: { (xs : List Self.Item) (k : ℕ) → is_open xs k ≡ true → k < length xs };
 
     // a place of a prefix that is open in the whole list is open in the prefix
-    ghost open_before: { (xs ys : List Self.Item) (k : ℕ) → k < length xs → is_open (xs ++ ys) k ≡ true → is_open xs k ≡ true };
+    ghost open_before: { (xs ys : List Self.Item) (k : ℕ)
+        → k < length xs → is_open (xs ++ ys) k ≡ true → is_open xs k ≡ true };
 }

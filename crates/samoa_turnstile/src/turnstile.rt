@@ -37,7 +37,8 @@ pub struct Turnstile<V: Kept> {
 }
 
 impl<V: Kept + Send> Turnstile<V> {
-    ghost use Rattle.samoa_turnstile.specs.Seats.{IsSeatOf, IsSameSeat, IsIdle, IsHolding, Holds, HasSeen, view, fixed_of, seats_of, parts_of, seen_by, hand_of, list_at_take, misses_of};
+    ghost use Rattle.samoa_turnstile.specs.Seats.{IsSeatOf, IsSameSeat, IsIdle, IsHolding, Holds, HasSeen};
+    ghost use Rattle.samoa_turnstile.specs.Seats.{view, fixed_of, seats_of, parts_of, seen_by, hand_of, list_at_take, misses_of};
 
     /// A turnstile with the value at home, and the seat that has all `seats` parts of it.
     ///
@@ -73,12 +74,13 @@ impl<V: Kept + Send> Turnstile<V> {
         requires some { 0 < self.now.table.shared.key }
         requires settled { (k : ℕ) → V.is_open (V.items value) k ≡ false }
         ensures own { seat.new.table_id ≡ seat.old.table_id }
-        ensures opened { seat.new.me ≡ (first_view self.now.table.shared.key (V.fixed value) (V.items value), []) }
+        ensures opened { seat.new.me
+            ≡ (first_view self.now.table.shared.key (V.fixed value) (V.items value), []) }
     {
         let shared = &self.table.shared;
         shared.store::<Begin>(seat, 0, HELD);
-        let was = shared.exchange(seat, 0, Some(value));
-        let None = was else { unreachable!() };
+        let vacant = shared.exchange(seat, 0, Some(value));
+        let None = vacant else { unreachable!() };
         shared.store::<Open<V>>(seat, 0, FREE);
     }
 
@@ -92,11 +94,14 @@ impl<V: Kept + Send> Turnstile<V> {
         ensures holds { IfSome result (λ value. Holds seat.new (V.items value)) }
         ensures fixed { IfSome result (λ value. fixed_of seat.old ≡ Some (V.fixed value)) }
         ensures grown { IfSome result (λ value. IsPrefix (seen_by seat.old) (V.items value)) }
-        ensures hand { IfSome result (λ value. HandIsOpen V.is_open (hand_of seat.old) (V.items value)) }
-        ensures kept { IfSome result (λ value. view seat.new ≡ record (view seat.old) { noted = Some (V.items value) }) }
+        ensures hand { IfSome result (λ value.
+            HandIsOpen V.is_open (hand_of seat.old) (V.items value)) }
+        ensures kept { IfSome result (λ value.
+            view seat.new ≡ record (view seat.old) { noted = Some (V.items value) }) }
 
         ensures idle { IfNone result (IsIdle seat.new) }
-        ensures missed { IfNone result (view seat.new ≡ record (view seat.old) { missed = misses_of seat.old + 1 }) }
+        ensures missed { IfNone result (
+            view seat.new ≡ record (view seat.old) { missed = misses_of seat.old + 1 }) }
     {
         let shared = &self.table.shared;
         if shared.compare_exchange::<Take<V>>(seat, 0, FREE, HELD) == FREE {
@@ -115,7 +120,8 @@ impl<V: Kept + Send> Turnstile<V> {
         ensures fixed { fixed_of seat.old ≡ Some (V.fixed result) }
         ensures grown { IsPrefix (seen_by seat.old) (V.items result) }
         ensures hand { HandIsOpen V.is_open (hand_of seat.old) (V.items result) }
-        ensures kept { view seat.new ≡ record (view seat.old) { noted = Some (V.items result); missed = misses_of seat.new } }
+        ensures kept { view seat.new
+            ≡ record (view seat.old) { noted = Some (V.items result); missed = misses_of seat.new } }
         ensures missed { misses_of seat.old ≤ misses_of seat.new }
     {
         for _ in rt.forever() {
@@ -139,8 +145,10 @@ impl<V: Kept + Send> Turnstile<V> {
         ensures own { IsSameSeat seat.old seat.new }
         ensures idle { IsIdle seat.new }
         ensures seen { HasSeen seat.new (V.items value) }
-        ensures hand { IsHandAfter V.is_open (hand_of seat.old) (list_at_take seat.old) (V.items value) (hand_of seat.new) }
-        ensures kept { view seat.new ≡ record (view seat.old) { seen = V.items value; noted = None; hand = hand_of seat.new } }
+        ensures hand { IsHandAfter V.is_open (hand_of seat.old) (list_at_take seat.old) (V.items value)
+            (hand_of seat.new) }
+        ensures kept { view seat.new
+            ≡ record (view seat.old) { seen = V.items value; noted = None; hand = hand_of seat.new } }
     {
         let shared = &self.table.shared;
         let was = shared.exchange(seat, 0, Some(value));
@@ -175,7 +183,9 @@ impl<V: Kept + Send> Turnstile<V> {
         ensures seen_before { IsPrefix (seen_by seat.old) (seen_by seat.new) }
         ensures seen_by_other { IsPrefix (seen_by other) (seen_by seat.new) }
         ensures hand { hand_of seat.new ≡ hand_of seat.old }
-        ensures kept { (fixed_of seat.new ≡ fixed_of seat.old) × (seats_of seat.new ≡ seats_of seat.old) × (misses_of seat.new ≡ misses_of seat.old) }
+        ensures fixed { fixed_of seat.new ≡ fixed_of seat.old }
+        ensures seats { seats_of seat.new ≡ seats_of seat.old }
+        ensures missed { misses_of seat.new ≡ misses_of seat.old }
     {
         self.table.shared.join_seat::<Parts>(seat, other);
         self.table.shared.load::<Look>(seat, 0);

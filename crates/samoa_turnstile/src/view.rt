@@ -27,7 +27,7 @@ pub struct View<F, I> {
 }
 
 /// The rule of the table. Its key is the number of seats.
-pub struct Turning<V> {
+pub(crate) struct Turning<V> {
     marker: PhantomData<V>,
 }
 

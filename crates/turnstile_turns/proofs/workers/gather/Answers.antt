@@ -11,13 +11,13 @@ loop-seat-preserved c =
     let joined = c.join.ensures in
     let t = popped (IsReady now) _ _ _ _ items c.in-Some.is inv.ready in record {
       ready = t.0;
-      last = joined_ready now c.loop-seat.last c.in-Some.seat c.join.new.seat joined.own joined.idle joined.hand joined.kept.0 joined.kept.1 inv.last;
+      last = joined_ready now c.loop-seat.last c.in-Some.seat c.join.new.seat joined.own joined.idle joined.hand joined.fixed joined.seats inv.last;
       fewer = search rules;
       members = λ workers goal all.
           let m = inv.members workers goal all in
           let u = popped (λ s. IsMember now workers 1 goal s × HasReached s) _ _ _ _ items c.in-Some.is m.1 in
           let up : vec_len c.args.seats - vec_len c.pop-in-loop-seat.new.self ≡ (vec_len c.args.seats - vec_len c.loop-seat.seats) + 1 = search rules in
-          (joined_member now c.loop-seat.last c.in-Some.seat c.join.new.seat joined.own joined.idle joined.hand joined.kept.0 joined.kept.1 joined.parts joined.seen_before workers _ _ goal up m.0 u.1.0, u.0);
+          (joined_member now c.loop-seat.last c.in-Some.seat c.join.new.seat joined.own joined.idle joined.hand joined.fixed joined.seats joined.parts joined.seen_before workers _ _ goal up m.0 u.1.0, u.0);
     }
 
 pub returns : goal.returns
