@@ -17,7 +17,17 @@ longer xs ys = if nat_le (length xs) (length ys) then ys else xs
 module _ {F I : Type 0} where
   -- the first seat's view until the first put
   abbrev pub fresh : ℕ → View F I
-  fresh seats = record { fixed = None; seats = seats; parts = 0; seen = []; noted = None; hand = None; missed = 0; one = []; two = [] }
+  fresh seats = record {
+    fixed = None;
+    seats = seats;
+    parts = 0;
+    seen = [];
+    noted = None;
+    hand = None;
+    missed = 0;
+    one = [];
+    two = [];
+  }
 
   -- the view of a seat that was joined into another
   abbrev pub spent : View F I
@@ -37,7 +47,17 @@ module _ {F I : Type 0} where
 
   -- after the first put
   abbrev pub first_view : ℕ → F → List I → View F I
-  first_view seats kept xs = record { fixed = Some kept; seats = seats; parts = seats; seen = xs; noted = None; hand = None; missed = 0; one = []; two = [] }
+  first_view seats kept xs = record {
+    fixed = Some kept;
+    seats = seats;
+    parts = seats;
+    seen = xs;
+    noted = None;
+    hand = None;
+    missed = 0;
+    one = [];
+    two = [];
+  }
 
   -- after a split
   abbrev pub one_less : View F I → View F I
@@ -119,9 +139,11 @@ module _ {V F I : Type 0} (fixed : V → F) (items : V → List I) (is_open : Li
     pub holder : ℕ
     pub kept : F
     pub word : (slice_index s.words 0 ≡ 0) ⊎ (slice_index s.words 0 ≡ 1)
-    pub home : slice_index s.words 0 ≡ 0 → (v : V) × (get_elem? s.homes 0 ≡ some (some (Some v))) × (items v ≡ present) × (fixed v ≡ kept)
+    pub home : slice_index s.words 0 ≡ 0 → (v : V) × (get_elem? s.homes 0 ≡ some (some (Some v))) × (items v ≡ present)
+        × (fixed v ≡ kept)
     pub held : slice_index s.words 0 ≡ 1 → (v : View F I) × (get_elem? s.views holder ≡ some v) × (v.noted ≡ Some present)
-    pub each : (j : ℕ) (v : View F I) → get_elem? s.views j ≡ some v → (v ≡ spent) ⊎ Fits seats (slice_index s.words 0) holder present kept j v
+    pub each : (j : ℕ) (v : View F I) → get_elem? s.views j ≡ some v → (v ≡ spent)
+        ⊎ Fits seats (slice_index s.words 0) holder present kept j v
     pub parts : total (map parts_in s.views) ≡ seats
     pub dealt : IsDealt is_open present (map hand_in s.views)
 
@@ -142,10 +164,12 @@ module _ {V F I : Type 0} (fixed : V → F) (items : V → List I) where
   -- a take that found the value at home gives it to the seat; another counts one more
   abbrev pub taken : (List I → ℕ → Bool) → Step (Option V) → Me (Option V) (View F I) → ℕ → Me (Option V) (View F I) → Type 0
   taken is_open st m r n =
-      (r ≡ 0 → (value : V) × (n ≡ (holding m.0 (items value), (0, Some value) ∷ [])) × (m.0.fixed ≡ Some (fixed value)) × IsPrefix m.0.seen (items value) × HandIsOpen is_open m.0.hand (items value))
+      (r ≡ 0 → (value : V) × (n ≡ (holding m.0 (items value), (0, Some value) ∷ [])) × (m.0.fixed ≡ Some (fixed value))
+      × IsPrefix m.0.seen (items value) × HandIsOpen is_open m.0.hand (items value))
       × (r ≢ 0 → n ≡ (missed_again m.0, m.1))
 
 module _ {V F I : Type 0} (items : V → List I) (is_open : List I → ℕ → Bool) where
   -- a put leaves the seat with the value's list, and with the hand after it
   abbrev pub put_back : Step (Option V) → Me (Option V) (View F I) → ℕ → Me (Option V) (View F I) → Type 0
-  put_back st m r n = (value : V) → m.1 ≡ (0, Some value) ∷ [] → (hand : Option ℕ) × (n ≡ (shown m.0 (items value) hand, [])) × IsHandAfter is_open m.0.hand (list_or m.0.noted) (items value) hand
+  put_back st m r n = (value : V) → m.1 ≡ (0, Some value) ∷ [] → (hand : Option ℕ) × (n ≡ (shown m.0 (items value) hand, []))
+      × IsHandAfter is_open m.0.hand (list_or m.0.noted) (items value) hand

@@ -29,12 +29,12 @@ fn main(rt: HostRuntime) -> io::Result<()> {
     let alloc = rt.alloc();
     for line in rt.lines(alloc) {
         let Some((workers, goal)) = read_order(line?.as_str()) else {
-            println!(rt; "1 to {} workers, a space, and a goal", workers::MOST_WORKERS)?;
+            println!(rt; "? a number of workers from 1 to {}, a space, and a goal", workers::MOST_WORKERS)?;
             continue;
         };
         match workers::count_turns(&rt, alloc, workers, goal) {
-            Ok(count) => println!(rt; "{workers} workers: {count} turns")?,
-            Err(NoMemory) => println!(rt; "{workers} workers: no memory")?,
+            Ok(count) => println!(rt; "workers {workers}, turns {count}")?,
+            Err(NoMemory) => println!(rt; "workers {workers}, no memory")?,
         }
     }
     Ok(())

@@ -18,7 +18,9 @@ load-requires g c =
     (search rules, search rules, looks_allowed g.V.Kept.fixed g.V.Kept.items g.V.Kept.is_open _ _ _ _ (omega arith))
 
 pub returns-clause-seen_before : goal.returns-clause-seen_before
-returns-clause-seen_before g c = (joined_sees c.args.seat.now.me.0 c.args.other.me.0 c.join_seat.new.seat.me c.load.new.seat.me _ c.join_seat.ensures.2 c.load.ensures.2.0 c.load.ensures.2.1).0
+returns-clause-seen_before g c =
+    (joined_sees c.args.seat.now.me.0 c.args.other.me.0 c.join_seat.new.seat.me c.load.new.seat.me _ c.join_seat.ensures.2 c.load.ensures.2.0 c.load.ensures.2.1).0
 
 pub returns-clause-seen_by_other : goal.returns-clause-seen_by_other
-returns-clause-seen_by_other g c = (joined_sees c.args.seat.now.me.0 c.args.other.me.0 c.join_seat.new.seat.me c.load.new.seat.me _ c.join_seat.ensures.2 c.load.ensures.2.0 c.load.ensures.2.1).1
+returns-clause-seen_by_other g c =
+    (joined_sees c.args.seat.now.me.0 c.args.other.me.0 c.join_seat.new.seat.me c.load.new.seat.me _ c.join_seat.ensures.2 c.load.ensures.2.0 c.load.ensures.2.1).1

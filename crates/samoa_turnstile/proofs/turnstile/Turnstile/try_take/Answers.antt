@@ -4,7 +4,8 @@ use Rattle.samoa_turnstile.proofs.Steps.{takes_allowed}
 use Rattle.samoa_turnstile.proofs.turnstile.Turnstile.try_take.Goals as goal
 
 pub compare_exchange-requires : goal.compare_exchange-requires
-compare_exchange-requires g c = (search rules, search rules, takes_allowed g.V.Kept.fixed g.V.Kept.items g.V.Kept.is_open _ _ _ _ c.requires.idle.0 c.requires.idle.1 c.requires.idle.2)
+compare_exchange-requires g c =
+    (search rules, search rules, takes_allowed g.V.Kept.fixed g.V.Kept.items g.V.Kept.is_open _ _ _ _ c.requires.idle.0 c.requires.idle.1 c.requires.idle.2)
 
 pub exchange-requires : goal.exchange-requires
 exchange-requires g c = let t = c.compare_exchange.ensures.2.0 c.if-compare_exchange-eq-FREE.true in
