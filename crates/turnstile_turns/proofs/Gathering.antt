@@ -1,5 +1,5 @@
 -- Seats that are taken from a list one by one, and joined into one.
-use Rattle.std.proofs.Common.{◌≡◌, ◌<◌, ◌≤◌, ◌+◌, ◌-◌, ℕ, List, Option, Some, None, All, IfSome, ◌++◌, length, take, drop, [], subst, ◌∙◌, sym, ap, arith}
+use Rattle.std.proofs.Common.{◌≡◌, ◌<◌, ◌+◌, ℕ, List, Option, Some, All, IfSome, ◌++◌, length, take, drop, [], subst, ◌∙◌, sym, ap, arith}
 use Rattle.std.specs.Prelude.{option_to_list, slice_index_or}
 use Rattle.std.proofs.lemmas.List.{take_all, append-nil}
 use Rattle.std.proofs.lemmas.List.Elements.{All-pop}

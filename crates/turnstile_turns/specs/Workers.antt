@@ -1,5 +1,5 @@
 -- What clauses say of a worker's seat. The fixed part of a counter is its goal, and its list has an item for each turn.
-use Rattle.std.specs.Prelude.{◌≡◌, ◌≤◌, ℕ, List, length, Option, Some, None}
+use Rattle.std.specs.Prelude.{◌≡◌, ◌≤◌, ℕ, length, Option, Some, None}
 use Rattle.samoa_turnstile.specs.declared.turnstile.Turnstile.{Turnstile}
 use Rattle.samoa_turnstile.specs.Seats.{SeatOf, IsSeatOf, IsSameSeat, IsIdle, fixed_of, seats_of, parts_of, seen_by, hand_of}
 

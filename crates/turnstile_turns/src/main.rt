@@ -29,7 +29,10 @@ fn main(rt: HostRuntime) -> io::Result<()> {
     let alloc = rt.alloc();
     for line in rt.lines(alloc) {
         let Some((workers, goal)) = read_order(line?.as_str()) else {
-            println!(rt; "? a number of workers from 1 to {}, a space, and a goal", workers::MOST_WORKERS)?;
+            println!(rt;
+                "? a number of workers from 1 to {}, a space, and a goal",
+                workers::MOST_WORKERS
+            )?;
             continue;
         };
         match workers::count_turns(&rt, alloc, workers, goal) {

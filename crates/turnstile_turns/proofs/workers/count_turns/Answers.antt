@@ -1,4 +1,4 @@
-use Rattle.std.proofs.Common.{◌≡◌, ◌≤◌, Some, ap, ◌∙◌, arith}
+use Rattle.std.proofs.Common.{◌≡◌, Some, ap, ◌∙◌, arith}
 use Rattle.samoa_turnstile.specs.Seats.{fixed_of}
 use Rattle.turnstile_turns.proofs.Counting.{counted}
 use Rattle.turnstile_turns.proofs.workers.count_turns.Goals as goal

@@ -1,4 +1,4 @@
-use Rattle.std.proofs.Common.{rules, arith, ◌-◌, ◌+◌, ◌<◌, ◌≡◌, vec_len, subst, sym}
+use Rattle.std.proofs.Common.{rules, ◌-◌, ◌+◌, ◌≡◌, vec_len, subst}
 use Rattle.turnstile_turns.specs.Workers.{IsReady, HasReached, IsMember}
 use Rattle.turnstile_turns.proofs.Gathering.{popped, joined_ready, joined_member}
 use Rattle.turnstile_turns.proofs.workers.gather.Goals as goal

@@ -1,4 +1,4 @@
-use Rattle.std.proofs.Common.{◌≡◌, ◌<◌, ◌-◌, ℕ, Option, vec_len, All}
+use Rattle.std.proofs.Common.{◌<◌, ◌-◌, ℕ, Option, vec_len, All}
 use Rattle.turnstile_turns.specs.Workers.{IsReady, HasReached, IsMember}
 use Rattle.turnstile_turns.proofs.workers.gather.Given as goal
 

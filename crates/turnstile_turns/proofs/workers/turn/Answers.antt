@@ -1,4 +1,4 @@
-use Rattle.std.proofs.Common.{◌≤◌, ap, arith}
+use Rattle.std.proofs.Common.{ap, arith}
 use Rattle.samoa_turnstile.specs.Turning.{list_or}
 use Rattle.turnstile_turns.proofs.Counting.{counts_on}
 use Rattle.turnstile_turns.proofs.workers.turn.Goals as goal
