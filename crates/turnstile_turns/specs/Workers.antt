@@ -1,5 +1,5 @@
 -- What clauses say of a worker's seat. The fixed part of a counter is its goal, and its list has an item for each turn.
-use Rattle.std.specs.Prelude.{◌≡◌, ◌≤◌, ℕ, length, Option, Some, None}
+use Rattle.std.specs.Prelude.{◌≡◌, ◌<◌, ◌≤◌, ℕ, length, Option, Some, None}
 use Rattle.samoa_turnstile.specs.declared.turnstile.Turnstile.{Turnstile}
 use Rattle.samoa_turnstile.specs.Seats.{SeatOf, IsSeatOf, IsSameSeat, IsIdle, fixed_of, seats_of, parts_of, seen_by, hand_of}
 
@@ -22,6 +22,9 @@ module _ {V I : Type 0} where
   -- the seat has seen as many turns as the goal
   abbrev pub HasReached : SeatOf V ℕ I → Type 0
   HasReached seat = (goal : ℕ) → fixed_of seat ≡ Some goal → goal ≤ length (seen_by seat)
+
+  abbrev pub HasSeenMore : SeatOf V ℕ I → SeatOf V ℕ I → Type 0
+  HasSeenMore old new = length (seen_by old) < length (seen_by new)
 
   -- the seat is ready, has these parts of all, and knows this goal
   pub record IsMember (turnstile : Turnstile V ℕ I) (seats parts : ℕ) (goal : Option ℕ) (seat : SeatOf V ℕ I) : Type 0 where

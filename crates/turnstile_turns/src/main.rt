@@ -11,15 +11,16 @@ ghost use Rattle.std.specs.Prelude.{◌≤◌, IfSome};
 
 use samoa_model::NoMemory;
 use std::io;
+use workers::{MOST_WORKERS, count_turns};
 
-/// Workers and a goal, as `4 20000`: 1 to 64 workers, and a number below 2 ^ 32.
+/// Workers and a goal, as `4 20000`: 1 to 64 workers, and a number below 2 ^ 32. No clause says which lines give none.
 fn read_order(line: &str) -> Option<(u32, u32)>
-    ensures workers { IfSome result (λ order. (1 ≤ order.0) × (order.0 ≤ 64)) }
+    ensures workers { IfSome result (λ order. (1 ≤ order.0) × (order.0 ≤ MOST_WORKERS)) }
 {
     let (workers, goal) = line.split_once(' ')?;
     let workers = workers.parse::<u32>().ok()?;
     let goal = goal.parse::<u32>().ok()?;
-    if workers < 1 || workers > workers::MOST_WORKERS {
+    if workers < 1 || workers > MOST_WORKERS {
         return None;
     }
     Some((workers, goal))
@@ -31,11 +32,11 @@ fn main(rt: HostRuntime) -> io::Result<()> {
         let Some((workers, goal)) = read_order(line?.as_str()) else {
             println!(rt;
                 "? a number of workers from 1 to {}, a space, and a goal",
-                workers::MOST_WORKERS
+                MOST_WORKERS
             )?;
             continue;
         };
-        match workers::count_turns(&rt, alloc, workers, goal) {
+        match count_turns(&rt, alloc, workers, goal) {
             Ok(count) => println!(rt; "workers {workers}, turns {count}")?,
             Err(NoMemory) => println!(rt; "workers {workers}, no memory")?,
         }

@@ -1,7 +1,7 @@
 //! Workers on one counter, each with a seat of its own.
-ghost use Rattle.std.specs.Prelude.{slice_index_or, vec_len, vec_capacity, Option, ◌≡◌, ◌≤◌, ◌<◌, ℕ, All, IfOk, IsTrue, length};
+ghost use Rattle.std.specs.Prelude.{slice_index_or, vec_len, vec_capacity, Option, ◌≡◌, ◌≤◌, ◌<◌, ℕ, All, IfOk, MatchBool, length};
 ghost use Rattle.samoa_turnstile.specs.Seats.{fixed_of};
-ghost use Rattle.turnstile_turns.specs.Workers.{IsReady, HasWorked, HasReached, IsMember};
+ghost use Rattle.turnstile_turns.specs.Workers.{IsReady, HasWorked, HasReached, HasSeenMore, IsMember};
 
 use crate::counter::Counter;
 use samoa_model::NoMemory;
@@ -14,11 +14,11 @@ use std::thread::Threads;
 /// The most workers at a time.
 pub const MOST_WORKERS: u32 = 64;
 
-/// One turn. Whether the goal is reached.
+/// One turn. Whether the goal is reached; where it isn't, the seat has seen more turns than before.
 fn turn<R: Wait>(rt: &R, turnstile: &Turnstile<Counter>, seat: &mut Seat<Counter>) -> bool
     requires ready { IsReady turnstile.now seat.old }
     ensures worked { HasWorked seat.old seat.new }
-    ensures reached { IsTrue result → HasReached seat.new }
+    ensures reached { MatchBool result (HasReached seat.new) (HasSeenMore seat.old seat.new) }
 {
     let mut counter = turnstile.take(seat, rt);
     let is_reached = counter.count_one();
@@ -69,7 +69,9 @@ fn work_all<R: Threads + Wait + Sync>(
 )
     requires some { 0 < length seats.old }
     requires ready { All (IsReady turnstile.now) seats.old }
-    ensures { (i : ℕ) (d : _) → i < length seats.old → HasWorked (slice_index_or seats.old i d) (slice_index_or seats.new i d) × HasReached (slice_index_or seats.new i d) }
+    ensures { (i : ℕ) (d : _) → i < length seats.old
+        → HasWorked (slice_index_or seats.old i d) (slice_index_or seats.new i d)
+        × HasReached (slice_index_or seats.new i d) }
 {
     let threads = seats.len();
     thread::for_each_mut(
@@ -83,11 +85,13 @@ fn work_all<R: Threads + Wait + Sync>(
     );
 }
 
-/// One seat of all.
+/// All seats joined into one.
 fn gather(turnstile: &Turnstile<Counter>, seats: Vec<Seat<Counter>>) -> Seat<Counter>
     requires some { 0 < vec_len seats }
     requires ready { All (IsReady turnstile.now) seats.items }
-    ensures { (workers : ℕ) (goal : Option ℕ) → All (λ s. IsMember turnstile.now workers 1 goal s × HasReached s) seats.items → IsMember turnstile.now workers (vec_len seats) goal result × HasReached result }
+    ensures { (workers : ℕ) (goal : Option ℕ)
+        → All (λ s. IsMember turnstile.now workers 1 goal s × HasReached s) seats.items
+        → IsMember turnstile.now workers (vec_len seats) goal result × HasReached result }
 {
     let mut seats = seats;
     let mut last = seats.pop().unwrap();
