@@ -18,9 +18,7 @@ use crate::turn::{Ran, Turn};
 use samoa_bind::Tables;
 use samoa_calls::Comp;
 use samoa_micro::{Held, Micro, Stock};
-use samoa_model::{
-    Ending, Entry, Ext, MicroId, Moment, NoMemory, NodeId, Outcome, Script, Words,
-};
+use samoa_model::{Ending, Entry, Ext, MicroId, Moment, NoMemory, NodeId, Outcome, Script, Words};
 use std::alloc::Global;
 use std::marker::Model;
 
@@ -207,7 +205,11 @@ impl<B: Micro> Core<B> {
         ensures { result ≡ length self.now.past + (if is_some self.now.present then 1 else 0) }
     {
         let ended = self.exts.len() as u32;
-        if self.present.is_some() { ended + 1 } else { ended }
+        if self.present.is_some() {
+            ended + 1
+        } else {
+            ended
+        }
     }
 
     /// What began a computation, which has ended since the last `clear`.

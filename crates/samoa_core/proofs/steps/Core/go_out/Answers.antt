@@ -17,10 +17,11 @@ take-requires g c =
     let same : with_open fs o ≡ c.args.self.now = course-with fs o c.in-Some.is ∙ c.self.view_is in
     let home : IsHome fs.script fs.exts o c.requires.0 = due-is fs o c.requires.0 (ap due same ∙ c.requires.1) in
     let call = home.step.call in
-    let micro : c.args.micro.0 ≡ call.handler.micro.0 = sym c.requires.2 ∙ home.step.micro in
-    (before_at fs.script fs.exts o call,
-    ap (λ (p : ℕ). slice_get fs.slots.boxes (o.ext.node.0 * fs.slots.micros + p)) micro
-    ∙ box-here fs o call c.requires.0.moment kept home.out home.step.next)
+    let micro : c.args.micro.0 ≡ call.handler.micro.0 = sym c.requires.2 ∙ home.step.micro in (
+      before_at fs.script fs.exts o call,
+      ap (λ (p : ℕ). slice_get fs.slots.boxes (o.ext.node.0 * fs.slots.micros + p)) micro
+          ∙ box-here fs o call c.requires.0.moment kept home.out home.step.next,
+    )
 
 pub invariant_of-self : goal.invariant_of-self
 invariant_of-self g c =

@@ -12,12 +12,14 @@ pub show-requires : goal.show-requires
 show-requires g c =
     let fs : Fields = fields_of c.self.inside in
     let node : ℕ = c.args.node.0 in
-    let micro : ℕ = c.args.micro.0 in
-    (seen_in fs.script node micro (states_of (course_of fs) node micro), refl,
-    seen_now fs node micro c.self.invariant
-    (subst (λ (x : Course). node < x.script.nodes) (sym c.self.view_is) c.requires.node)
-    (subst (λ (x : Course). micro < length x.script.micros) (sym c.self.view_is) c.requires.micro)
-    (subst (λ (x : Course). is_out x node micro ≡ false) (sym c.self.view_is) c.requires.home))
+    let micro : ℕ = c.args.micro.0 in (
+      seen_in fs.script node micro (states_of (course_of fs) node micro),
+      refl,
+      seen_now fs node micro c.self.invariant
+          (subst (λ (x : Course). node < x.script.nodes) (sym c.self.view_is) c.requires.node)
+          (subst (λ (x : Course). micro < length x.script.micros) (sym c.self.view_is) c.requires.micro)
+          (subst (λ (x : Course). is_out x node micro ≡ false) (sym c.self.view_is) c.requires.home),
+    )
 
 pub returns : goal.returns
 returns g c =
