@@ -4,6 +4,7 @@ use samoa_model::{
     Kind, Listed, MicroDef, MicroId, Name, NoMemory, NodeId, Refusal, Reply, Script, Words,
 };
 use std::alloc::Global;
+use std::process::Abort;
 use std::test::Fail;
 
 /// Microprotocols `ab`, with handlers `f` and `g_2`, and `c`; events `go` and `halt`; a change `to_b`.
@@ -179,8 +180,7 @@ fn other_rows() -> [Row; 7] {
     ]
 }
 
-fn check_rows(rt: &HostRuntime, rows: &[Row]) -> Result<(), NoMemory> {
-    let alloc = rt.alloc();
+fn check_rows(rt: &impl Abort, alloc: Global, rows: &[Row]) -> Result<(), NoMemory> {
     let script = small_script(alloc)?;
     for (entry, line, always) in rows {
         let mut all = Vec::new(alloc);
@@ -195,8 +195,8 @@ fn check_rows(rt: &HostRuntime, rows: &[Row]) -> Result<(), NoMemory> {
 
 #[test]
 fn prints_entries(rt: HostRuntime) -> Result<(), Fail> {
-    check_rows(&rt, &call_rows())?;
-    check_rows(&rt, &other_rows())?;
+    check_rows(&rt, rt.alloc(), &call_rows())?;
+    check_rows(&rt, rt.alloc(), &other_rows())?;
     Ok(())
 }
 
