@@ -166,7 +166,7 @@ kept-out fs o c m kept home e =
     let micro : ℕ = c.handler.micro.0 in
     let at : Machine = point script past o.ext o.turns in
     let out : Open = record o { out = true } in
-    let below : micro < length script.micros = next-within script past o.ext o.turns c m kept.in_range kept.built e in
+    let below : micro < length script.micros = next-within script past o.ext o.turns c m kept.in_range e in
     record {
       in_range = kept.in_range;
       built = kept.built;
@@ -253,7 +253,7 @@ kept-home fs o c m boxed outcome new kept away e is_boxed is_outcome is_new name
     let node : ℕ = o.ext.node.0 in
     let micro : ℕ = c.handler.micro.0 in
     let on : Open = gone_on script o outcome in
-    let below : micro < length script.micros = next-within script past o.ext o.turns c m kept.in_range kept.built e in
+    let below : micro < length script.micros = next-within script past o.ext o.turns c m kept.in_range e in
     record {
       in_range = kept.in_range;
       built = kept.built;
@@ -389,7 +389,7 @@ pub slot-within : (fs : Fields) (o : Open) (c : Call) (m : Moment) → Kept (rec
     → o.ext.node.0 * fs.slots.micros + c.handler.micro.0 < length fs.slots.boxes
 slot-within fs o c m kept e =
     let here : IsOpenIn fs.script fs.exts o = kept.present o refl in
-    let below : c.handler.micro.0 < length fs.script.micros = next-within fs.script fs.exts o.ext o.turns c m kept.in_range kept.built e in
+    let below : c.handler.micro.0 < length fs.script.micros = next-within fs.script fs.exts o.ext o.turns c m kept.in_range e in
     let within : o.ext.node.0 * length fs.script.micros + c.handler.micro.0 < fs.script.nodes * length fs.script.micros =
     grid-within fs.script.nodes (length fs.script.micros) o.ext.node.0 c.handler.micro.0 here.ext.node below in
     rw kept.micros (omega (arith, within, kept.slots.size))
@@ -401,7 +401,7 @@ box-here fs o c m kept home e =
     let here : IsOpenIn fs.script fs.exts o = kept.present o refl in
     let node : ℕ = o.ext.node.0 in
     let micro : ℕ = c.handler.micro.0 in
-    let below : micro < length fs.script.micros = next-within fs.script fs.exts o.ext o.turns c m kept.in_range kept.built e in
+    let below : micro < length fs.script.micros = next-within fs.script fs.exts o.ext o.turns c m kept.in_range e in
     rw kept.micros (kept.slots.value node micro here.ext.node below
     ∙ ap (λ (x : Option Seen). Some x)
     (slot-there fs.script fs.exts o node micro refl

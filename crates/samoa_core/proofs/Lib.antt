@@ -6,5 +6,6 @@ pub mod Names
 pub mod Points
 pub mod Rules
 pub mod Shows
+pub mod Turns
 pub mod Ended
 pub mod AtHome

@@ -29,7 +29,7 @@ use Rattle.samoa_serial.specs.Alone.{Machine, opening, after, next_step, next_of
 use Rattle.samoa_serial.specs.declared.call.Due.{Due}
 use Rattle.samoa_model.specs.declared.handler.Moment.{Moment}
 use Rattle.samoa_serial.specs.SerialRun.{rules_of, serial}
-use Rattle.samoa_serial.proofs.Bound.{IsAtMostFour, AcceptsAtMostFour, turns_of_event-at_most}
+use Rattle.samoa_serial.proofs.ScriptLaws.{budget-most, rules-known, turns_of_ran-at_most}
 use Rattle.samoa_serial.proofs.Declared.{AllOf, AllAccepted, AllActive, AcceptsOnly, IsWithin, after_within}
 use Rattle.samoa_core.specs.Opened.{decl_number}
 use Rattle.samoa_core.specs.Kept.{whole_at, point}
@@ -51,70 +51,13 @@ table_from-same script none node table (ext ∷ later) =
 pub table-same : (script : Script) → IsBuilt script → (exts : List Ext) (node : ℕ) → table_of script exts node ≡ first_table script
 table-same script built exts node = table_from-same script built.unchanging node (first_table script) exts
 
-lt_or_le : (a b : ℕ) → (a < b) ⊎ (b ≤ a)
-lt_or_le a b = grind arith
-
--- the handlers of an event, at most four, each at a microprotocol of the script
-resolved : (script : Script) (event : EventId) → IsInRange script → IsBindable script (resolve (first_table script) event)
-resolved script event in_range = go (lt_or_le event.0 (length script.events))
-  where
-    none : length (first_table script) ≤ event.0 → IsBindable script (resolve (first_table script) event)
-    none le =
-        subst (λ (hs : List HandlerId). IsBindable script hs) (sym (get_or_past (first_table script) event.0 [] le))
-        (record { few = omega arith; known = All-nil (λ (h : HandlerId). h.micro.0 < length script.micros) })
-
-    bindable : All (IsBindable script) (first_table script)
-    bindable = All-map (IsBindable script) (λ (e : EventDef). e.handlers) script.events (All-weaker (IsEventInRange script) (λ (e : EventDef). IsBindable script e.handlers) (λ e known. known.handlers) script.events in_range.events)
-
-    go : (event.0 < length script.events) ⊎ (length script.events ≤ event.0) → IsBindable script (resolve (first_table script) event)
-    go (inl lt) = All-get_or (IsBindable script) (first_table script) event.0 [] (omega (arith, lt, length-map script.events (λ (e : EventDef). e.handlers))) bindable
-    go (inr le) = none (omega (arith, le, length-map script.events (λ (e : EventDef). e.handlers)))
-
-abbrev pub IsMicroOf : Script → HandlerId → Type 0
-IsMicroOf script h = h.micro.0 < length script.micros
-
-all_of : (P : HandlerId → Type 0) (hs : List HandlerId) → All P hs → AllOf P hs
-all_of P [] all = tt
-all_of P (h ∷ hs) all = (All-head P h hs all, all_of P hs (All-tail P h hs all))
-
-accepted-only : (script : Script) (decl : Decl) (entries : List Entry) (caller : Option HandlerId) (hs : List HandlerId) → IsBindable script hs
-    → AllAccepted (IsMicroOf script) (attempt_all decl entries caller hs)
-accepted-only script decl entries caller [] bindable = tt
-accepted-only script decl entries caller (h ∷ hs) bindable = go (first_refusal decl entries caller [] (h ∷ hs))
-  where
-    go : (r : Option Refusal) → AllAccepted (IsMicroOf script) (unless_refused r h hs)
-    go (Some r) = tt
-    go None = all_of (IsMicroOf script) (h ∷ hs) bindable.known
-
-accepted-few : (script : Script) (decl : Decl) (entries : List Entry) (caller : Option HandlerId) (hs : List HandlerId) → IsBindable script hs
-    → IsAtMostFour (attempt_all decl entries caller hs)
-accepted-few script decl entries caller [] bindable = tt
-accepted-few script decl entries caller (h ∷ hs) bindable = go (first_refusal decl entries caller [] (h ∷ hs))
-  where
-    few : length (h ∷ hs) ≤ 4
-    few = bindable.few
-
-    go : (r : Option Refusal) → IsAtMostFour (unless_refused r h hs)
-    go (Some r) = tt
-    go None = omega (arith, few)
-
 -- the table of the rules of an admission is the first one
 pub rules-attempt : (script : Script) (past : List Ext) (ext : Ext) → IsBuilt script
     → (rules_of script past ext).attempt ≡ attempts_of (decl_of script ext).decl (first_table script)
 rules-attempt script past ext built = ap (λ (t : Table). attempts_of (decl_of script ext).decl t) (table-same script built (past ++ ext ∷ []) ext.node.0)
 
--- what is accepted is at a microprotocol of the script, and few at a time
-rules-only : (script : Script) (past : List Ext) (ext : Ext) → IsInRange script → IsBuilt script
-    → AcceptsOnly (IsMicroOf script) (rules_of script past ext).attempt
-rules-only script past ext in_range built =
-    subst (λ (a : Attempts). AcceptsOnly (IsMicroOf script) a) (sym (rules-attempt script past ext built))
-    (λ es caller event. accepted-only script (decl_of script ext).decl es _ (resolve (first_table script) event) (resolved script event in_range))
-
-rules-few : (script : Script) (past : List Ext) (ext : Ext) → IsInRange script → IsBuilt script
-    → AcceptsAtMostFour (rules_of script past ext).attempt
-rules-few script past ext in_range built =
-    subst (λ (a : Attempts). AcceptsAtMostFour a) (sym (rules-attempt script past ext built))
-    (λ es caller event. accepted-few script (decl_of script ext).decl es _ (resolve (first_table script) event) (resolved script event in_range))
+abbrev pub IsMicroOf : Script → HandlerId → Type 0
+IsMicroOf script h = h.micro.0 < length script.micros
 
 begun-within : (P : HandlerId → Type 0) (arg : List ℕ) (n : ℕ) (hs : List HandlerId) → AllOf P hs → AllActive P (to_begin arg (calls_from n hs) ++ [])
 begun-within P arg n [] all = tt
@@ -131,17 +74,17 @@ opening-within P rules only budget states event arg =
     go (Attempt.Accepts h hs) all = (all.0, begun-within P arg _ hs all.1)
 
 -- the next handler step is at a microprotocol of the script
-pub next-within : (script : Script) (past : List Ext) (ext : Ext) (turns : ℕ) (c : Call) (m : Moment) → IsInRange script → IsBuilt script
+pub next-within : (script : Script) (past : List Ext) (ext : Ext) (turns : ℕ) (c : Call) (m : Moment) → IsInRange script
     → next_step (point script past ext turns).comp ≡ Some (c, m) → c.handler.micro.0 < length script.micros
 unfolding point
-next-within script past ext turns c m in_range built e =
+next-within script past ext turns c m in_range e =
     let rules = rules_of script past ext in
     let states = (serial script past).states ext.node.0 in
     let root = root_of script ext.cause in
     let budget = (decl_of script ext).budget in
     let within : IsWithin (IsMicroOf script) (after rules (opening rules budget states root ext.args) turns) =
-    after_within (IsMicroOf script) rules (rules-only script past ext in_range built) (opening rules budget states root ext.args) turns
-    (opening-within (IsMicroOf script) rules (rules-only script past ext in_range built) budget states root ext.args) in
+    after_within (IsMicroOf script) rules (rules-known script past ext in_range) (opening rules budget states root ext.args) turns
+    (opening-within (IsMicroOf script) rules (rules-known script past ext in_range) budget states root ext.args) in
     go (after rules (opening rules budget states root ext.args) turns).active within.active e
   where
     due : (a : Call) (d : Due) → IsMicroOf script a.handler → next_at a d ≡ Some (c, m) → c.handler.micro.0 < length script.micros
@@ -155,30 +98,11 @@ next-within script past ext turns c m in_range built e =
     go [] all e = cc
     go (a ∷ rest) all e = due a.call a.due all.0 e
 
--- a budget of the script
-pub budget-within : (script : Script) (ext : Ext) → IsInRange script → IsExtOf script ext → HasBudget (decl_of script ext)
-budget-within script ext in_range known = go ext.cause known.cause
-  where
-    at : (event : EventId) → IsEventOf script event → HasBudget (get_or script.decls (event_at script event.0).decl no_decl)
-    at event lt =
-        let e : IsEventInRange script (event_at script event.0) = All-get_or (IsEventInRange script) script.events event.0 no_event lt in_range.events in
-        All-get_or HasBudget script.decls (event_at script event.0).decl no_decl e.decl in_range.budgets
-
-    go : (cause : Cause) → IsCauseOf script cause → HasBudget (get_or script.decls (event_at script (root_of script cause).0).decl no_decl)
-    go (Event event) lt = at event lt
-    go (Change change) lt =
-        let c = All-get_or (IsChangeInRange script) script.changes change.0 no_change lt in_range.changes in
-        at (change_at script change.0).event c.event
-
 -- a computation makes few handler steps
-pub turns-few : (script : Script) (past : List Ext) (ext : Ext) → IsInRange script → IsBuilt script → IsExtOf script ext
-    → length (whole_at script past ext).world.turns ≤ 1284
+pub turns-few : (script : Script) (past : List Ext) (ext : Ext) → IsInRange script → length (whole_at script past ext).world.turns ≤ 1284
 unfolding whole_at
-turns-few script past ext in_range built known =
-    let bound = turns_of_event-at_most (rules_of script past ext) (rules-few script past ext in_range built) (decl_of script ext).budget ((serial script past).states ext.node.0) (root_of script ext.cause) ext.args in
-    let budget : HasBudget (decl_of script ext) = budget-within script ext in_range known in
-    let few : (decl_of script ext).budget ≤ 256 = budget.1 in
-    omega (arith, bound, few)
+turns-few script past ext in_range =
+    omega (arith, turns_of_ran-at_most script past ((serial script past).states ext.node.0) ext in_range, budget-most script ext in_range)
 
 -- the declaration of an admission is of the script
 pub decl-within : (script : Script) (ext : Ext) → IsInRange script → IsExtOf script ext → decl_number script ext < length script.decls

@@ -335,7 +335,7 @@ pub turns-fit : (fs : Fields) (o : Open) (c : Call) (m : Moment) → Kept (recor
 turns-fit fs o c m kept e =
     let here : IsOpenIn fs.script fs.exts o = kept.present o refl in
     let left = point-left fs.script fs.exts o.ext o.turns c m e in
-    let few = turns-few fs.script fs.exts o.ext kept.in_range kept.built here.ext in
+    let few = turns-few fs.script fs.exts o.ext kept.in_range in
     omega (arith, left, few)
 
 pub outcome-named : (fs : Fields) (o : Open) (c : Call) (g : Going) (outcome : Outcome) → IsInRange fs.script → g.before ≡ before_at fs.script fs.exts o c

@@ -9,3 +9,6 @@ mod turn;
 
 pub use steps::Core;
 pub use turn::{Ran, Turn};
+
+#[cfg(test)]
+mod tests;
