@@ -9,6 +9,3 @@ mod turn;
 
 pub use steps::Core;
 pub use turn::{Ran, Turn};
-
-#[cfg(test)]
-mod tests;

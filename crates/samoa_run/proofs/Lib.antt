@@ -1,0 +1,14 @@
+pub mod Batches
+pub mod Boxes
+pub mod Closing
+pub mod EntryBound
+pub mod EntrySteps
+pub mod Histories
+pub mod LaterText
+pub mod OneMore
+pub mod OneWord
+pub mod Parts
+pub mod Progress
+pub mod Remaining
+pub mod Served
+pub mod Ticks

@@ -1,0 +1,5 @@
+pub mod Reading
+pub mod Running
+pub mod Schedule
+pub mod Serving
+pub mod Words

@@ -1,0 +1,18 @@
+//! The top call: from the words of the command line and the bytes of the input to the report and the status.
+#![tactic(auto)]
+
+mod gate;
+mod reading;
+mod report;
+mod running;
+mod schedule;
+mod stop;
+mod text;
+mod top;
+mod totals;
+mod words;
+mod writing;
+
+pub use gate::{Gate, NoGate};
+pub use reading::LIMIT;
+pub use top::serve;

@@ -1,0 +1,97 @@
+//! Parts of the report, as a text in memory.
+ghost use Rattle.std.specs.Prelude.{◌≡◌, ◌+◌, ◌-◌, ◌<◌, ◌≤◌, ◌^◌, ◌++◌, false, length, None, Some, OnOk, slice_get};
+ghost use Rattle.samoa_model.specs.declared.record.Ext.{Ext};
+ghost use Rattle.samoa_serial.specs.Report.{comp_text, entries_text, node_text, states_text};
+ghost use Rattle.samoa_core.specs.Course.{away, ended_at, states_of};
+ghost use Rattle.samoa_run.specs.Running.{Counts};
+
+use crate::totals::Totals;
+use samoa_core::Core;
+use samoa_micro::Micro;
+use samoa_model::{MicroId, NoMemory, NodeId, Script};
+use samoa_report::{end_line, entry_line, ext_line, state_line};
+
+/// Appends the lines of a computation that has ended and wasn't cleared away, and counts its deliveries and refusals.
+/// Where there was no memory, some lines may be missing, and some may be counted.
+pub fn push_comp<B: Micro>(
+    script: &Script,
+    core: &Core<B>,
+    comp: u32,
+    text: &mut Vec<u8>,
+    totals: &mut Totals,
+) -> Result<(), NoMemory>
+    requires kept { core.now.cleared < comp }
+    requires ended { comp ≤ length core.now.past }
+    requires deliveries { totals.old.deliveries + length (ended_at core.now comp).world.entries < 2 ^ 64 }
+    requires refusals { totals.old.refusals + length (ended_at core.now comp).world.entries < 2 ^ 64 }
+    ensures text { OnOk result ((ext : Ext) → slice_get core.now.past (comp - 1) ≡ Some ext
+        → text.new.items ≡ text.old.items ++ comp_text script.now false comp ext (ended_at core.now comp)) }
+    ensures totals { OnOk result (Counts (ended_at core.now comp).world.entries totals.old totals.new) }
+{
+    let ext = core.ext(comp);
+    ext_line(script, comp, &ext, text)?;
+    push_entries(script, core, comp, text, totals)?;
+    let ending = core.ending(comp);
+    end_line(comp, &ending, text)
+}
+
+/// Appends the lines of its entries, and counts these.
+fn push_entries<B: Micro>(
+    script: &Script,
+    core: &Core<B>,
+    comp: u32,
+    text: &mut Vec<u8>,
+    totals: &mut Totals,
+) -> Result<(), NoMemory>
+    requires kept { core.now.cleared < comp }
+    requires ended { comp ≤ length core.now.past }
+    requires deliveries { totals.old.deliveries + length (ended_at core.now comp).world.entries < 2 ^ 64 }
+    requires refusals { totals.old.refusals + length (ended_at core.now comp).world.entries < 2 ^ 64 }
+    ensures text { OnOk result (text.new.items ≡ text.old.items ++ entries_text script.now comp false (ended_at core.now comp).world.entries) }
+    ensures totals { OnOk result (Counts (ended_at core.now comp).world.entries totals.old totals.new) }
+{
+    let mut at = 0;
+    while let Some(entry) = core.entry(comp, at) {
+        entry_line(script, comp, &entry, false, text)?;
+        totals.count(&entry);
+        at += 1;
+    }
+    Ok(())
+}
+
+/// Appends the shown states, node by node.
+pub fn push_states<B: Micro>(
+    script: &Script,
+    core: &Core<B>,
+    text: &mut Vec<u8>,
+) -> Result<(), NoMemory>
+    requires script { core.now.script ≡ script.now }
+    requires home { away core.now ≡ None }
+    requires few { length script.now.micros < 2 ^ 32 }
+    ensures { OnOk result (text.new.items ≡ text.old.items ++ states_text script.now (states_of core.now) script.now.nodes) }
+{
+    for node in 0..script.nodes {
+        push_node(script, core, NodeId(node), text)?;
+    }
+    Ok(())
+}
+
+/// Appends the shown states of a node, in the order of its microprotocols.
+fn push_node<B: Micro>(
+    script: &Script,
+    core: &Core<B>,
+    node: NodeId,
+    text: &mut Vec<u8>,
+) -> Result<(), NoMemory>
+    requires script { core.now.script ≡ script.now }
+    requires home { away core.now ≡ None }
+    requires few { length script.now.micros < 2 ^ 32 }
+    requires node { node.0 < script.now.nodes }
+    ensures { OnOk result (text.new.items ≡ text.old.items ++ node_text script.now (states_of core.now) node.0 (length script.now.micros)) }
+{
+    for micro in 0..script.micros.len() as u32 {
+        let words = core.shown(node, MicroId(micro));
+        state_line(script, node, MicroId(micro), &words, text)?;
+    }
+    Ok(())
+}
