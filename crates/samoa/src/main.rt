@@ -22,11 +22,6 @@ const MOST: usize = 32;
 
 fn main(rt: HostRuntime) -> ExitCode {
     let alloc = rt.alloc();
-    let words = match words_of(&rt, alloc) {
-        Ok(words) => words,
-        Err(error) if error.kind() == ErrorKind::OutOfMemory => return ExitCode::from(6),
-        Err(_) => return ExitCode::from(9),
-    };
     let mut boxes: Vec<MicroBox> = Vec::new(alloc);
     while boxes.len() < MOST {
         let Ok(prog) = Box::new(alloc, Prog::new(alloc)) else {
@@ -36,6 +31,11 @@ fn main(rt: HostRuntime) -> ExitCode {
             return ExitCode::from(6);
         };
     }
+    let words = match words_of(&rt, alloc) {
+        Ok(words) => words,
+        Err(error) if error.kind() == ErrorKind::OutOfMemory => return ExitCode::from(6),
+        Err(_) => return ExitCode::from(9),
+    };
     let mut source = StdSource::new(rt.reader());
     let mut sink = StdSink::new(io::writer(&rt));
     ExitCode::from(serve_boxes(&rt, alloc, &words, &mut source, &mut sink, boxes))
