@@ -5,3 +5,4 @@ pub mod Inv
 pub mod Walk
 pub mod Settle
 pub mod Parts
+pub mod Runs
