@@ -1,6 +1,5 @@
 -- What is admitted later changes nothing of a run.
-use Rattle.std.proofs.Common.{arith, ◌≡◌, ℕ, zero, suc, ◌+◌, ◌≤◌, ◌<◌, refl, sym, ap, subst, ◌∙◌, List, [], ◌∷◌, ◌++◌, ◌-◌, length, Option, Some, None, Bool, true, false, if◌then◌else◌, length-append, min}
-use Rattle.std.proofs.lemmas.List.{get_or_append_left}
+use Rattle.std.proofs.Common.{arith, ◌≡◌, ℕ, zero, suc, ◌+◌, ◌≤◌, ◌<◌, refl, sym, ap, subst, ◌∙◌, List, [], ◌∷◌, ◌-◌, length, Option, Some, None, Bool, true, false, if◌then◌else◌, min}
 use Rattle.samoa_model.specs.declared.handler.Moment.{Moment}
 use Rattle.samoa_model.specs.declared.record.Ext.{Ext}
 use Rattle.samoa_model.specs.declared.record.Step.{Step}
@@ -15,7 +14,7 @@ use Rattle.samoa_serial.specs.SerialRun.{node_step, opening_states}
 use Rattle.samoa_invariant.specs.Play.{Play}
 use Rattle.samoa_invariant.specs.State as model
 use Rattle.samoa_invariant.specs.State.{AllEnded, CanEnd, CanEnter, CanRelease, Core, HasTurn, Quiet}
-use Rattle.samoa_invariant.specs.Runs.{CanMake, IsRunFrom, after_step, clear_at, cleared, ext_at, is_clear, model_step, no_ext, play_of, run_from}
+use Rattle.samoa_invariant.specs.Runs.{IsRunFrom, after_step, clear_at, cleared, ext_at, is_clear, model_step, play_of, run_from}
 
 -- a play whose external events are all this one
 abbrev all_are : Script → Ext → Play
@@ -190,9 +189,11 @@ run-same script cells xs ys n clears made core (x ∷ journal) le same run most 
     let rest : IsSameRun script cells xs ys clears (suc made) next journal = run-same script cells xs ys n clears (suc made) next journal le same run.2 most in
     record {
       state = rest.state ∙ ap (λ (c : Core). run_from Q clears (suc made) c journal) same_next;
-      run = (run.0,
-          record { number = run.1.number; enabled = enabled-same script cells xs ys now (model_step x) le same_ext run.1.enabled },
-          subst (λ (c : Core). IsRunFrom Q clears (suc made) c journal) same_next rest.run);
+      run = (
+        run.0,
+        record { number = run.1.number; enabled = enabled-same script cells xs ys now (model_step x) le same_ext run.1.enabled },
+        subst (λ (c : Core). IsRunFrom Q clears (suc made) c journal) same_next rest.run,
+      );
     }
 
 made_most : (P : Play) (core : Core) (step : model.Step) → core.count ≤ P.most → model.IsEnabled P core step → (model.made_by P core step).count ≤ P.most

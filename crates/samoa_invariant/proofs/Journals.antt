@@ -1,6 +1,5 @@
 -- A journal that grows by a step or by a clear.
-use Rattle.std.proofs.Common.{arith, ◌≡◌, ◌≢◌, ℕ, zero, suc, ◌+◌, ◌≤◌, ◌<◌, ◌⊎◌, inl, inr, refl, sym, ap, subst, ◌∙◌, List, [], ◌∷◌, ◌++◌, length, Bool, true, false, ◌||◌, ◌==◌, if◌then◌else◌, eq-eqb, ne_eqb}
-use Rattle.std.proofs.Common.{length-append}
+use Rattle.std.proofs.Common.{arith, ◌≡◌, ◌≢◌, ℕ, suc, ◌+◌, ◌≤◌, ◌<◌, ◌⊎◌, inl, inr, refl, sym, ap, subst, ◌∙◌, List, [], ◌∷◌, ◌++◌, length, Bool, true, false, ◌||◌, ◌==◌, if◌then◌else◌, eq-eqb, ne_eqb}
 use Rattle.samoa_model.specs.declared.record.Step.{Step}
 use Rattle.samoa_invariant.specs.Play.{Play}
 use Rattle.samoa_invariant.specs.State as model
@@ -101,11 +100,12 @@ is_run-clear P clears made core (x ∷ xs) at e run all =
     let before : made < at = omega arith in
     let there : at ≡ suc made + length xs = omega arith in
     let other : is_clear (clears ++ at ∷ []) made ≡ is_clear clears made = clear-other clears at made before in
-    let same : clear_at clears made core ≡ clear_at (clears ++ at ∷ []) made core = ap (λ (b : Bool). if b then cleared core else core) (sym other) in
-    ((λ yes. run.0 (sym other ∙ yes)),
-    subst (λ (c : Core). CanMake P c x) same run.1,
-    subst (λ (c : Core). IsRunFrom P (clears ++ at ∷ []) (suc made) (after_step P c x) xs) same
-    (is_run-clear P clears (suc made) (after_step P (clear_at clears made core) x) xs at there run.2 all))
+    let same : clear_at clears made core ≡ clear_at (clears ++ at ∷ []) made core = ap (λ (b : Bool). if b then cleared core else core) (sym other) in (
+      (λ yes. run.0 (sym other ∙ yes)),
+      subst (λ (c : Core). CanMake P c x) same run.1,
+      subst (λ (c : Core). IsRunFrom P (clears ++ at ∷ []) (suc made) (after_step P c x) xs) same
+          (is_run-clear P clears (suc made) (after_step P (clear_at clears made core) x) xs at there run.2 all),
+    )
 
 cleared_reached : (P : Play) (core : Core) (b : Bool) → (b ≡ true → AllEnded core) → model.Reached P core → model.Reached P (if b then cleared core else core)
 cleared_reached P core true all reached = model.Reached.Later core model.Step.Clear reached (record { all = all refl })

@@ -74,7 +74,7 @@ out_in_turn P core i = record {
         let o : IsOutRightly P core v p k = i.out v p k e in
         subst (λ (c : Computation). IsNextAt c p) (sym (i.calls.comp k o.admitted)) o.next
 
-states_are_serial : (P : Play) (core : Core) → Invariant P core → StatesAreSerial P core
+pub states_are_serial : (P : Play) (core : Core) → Invariant P core → StatesAreSerial P core
 states_are_serial P core i = record {
   owned = λ k p t. i.boxes.owned k p t.admitted (turn_owns P core k p i t);
   free = λ v p none. i.boxes.idle v p (go v p none (in_order (core.local v p) (version P core.count v p)));

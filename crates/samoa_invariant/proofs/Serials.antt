@@ -11,7 +11,7 @@ use Rattle.samoa_serial.specs.Whole.{event_whole, Ran}
 use Rattle.samoa_serial.specs.SerialRun.{ran_of, rules_of, serial, serve_one, Served}
 use Rattle.samoa_serial.proofs.SerialLaws.{serial-append}
 use Rattle.samoa_invariant.specs.Slots.{At}
-use Rattle.samoa_invariant.specs.Play.{Play, rules, stood, whole_of}
+use Rattle.samoa_invariant.specs.Play.{Play, stood, whole_of}
 use Rattle.samoa_invariant.specs.State.{Core, AllEnded}
 use Rattle.samoa_invariant.specs.Inv.{Invariant, AnswersSerially, HasSerialAnswer, PlaysScript}
 use Rattle.samoa_invariant.proofs.Ends.{ended_answers, final_states}

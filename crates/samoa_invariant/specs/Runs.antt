@@ -1,6 +1,6 @@
 -- Runs of a core over a script and what is admitted: a journal of steps, with the clears between them. Computations are
 -- numbered from 1 here, as in a journal, so that computation k stands at the place k - 1 of the model.
-use Rattle.std.specs.Prelude.{◌≡◌, ℕ, zero, suc, ◌+◌, ◌-◌, ◌<◌, ◌≤◌, min, List, [], ◌∷◌, ◌++◌, length, take, get_or, Bool, true, false, ◌||◌, ◌==◌, if◌then◌else◌, Some}
+use Rattle.std.specs.Prelude.{◌≡◌, ℕ, suc, ◌+◌, ◌-◌, ◌<◌, ◌≤◌, min, List, [], ◌∷◌, ◌++◌, length, take, get_or, Bool, true, false, ◌||◌, ◌==◌, if◌then◌else◌, Some}
 use Rattle.samoa_model.specs.declared.record.Cause.TheVariants.{Event}
 use Rattle.samoa_model.specs.declared.record.Ending.TheVariants.{Cut}
 use Rattle.samoa_model.specs.declared.record.Ext.{Ext}
