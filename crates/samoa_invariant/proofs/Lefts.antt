@@ -24,7 +24,7 @@ not_out-most k (Some j) = go (j == k)
     go true = omega arith
     go false = omega arith
 
-home-most : (P : Play) (core : Core) (k : ℕ) (x : Option (Call × Moment)) → home_of P core k x ≤ suc zero
+pub home-most : (P : Play) (core : Core) (k : ℕ) (x : Option (Call × Moment)) → home_of P core k x ≤ suc zero
 home-most P core k None = omega arith
 home-most P core k (Some next) = not_out-most k (core.out (P.node k) next.0.handler.micro.0)
 

@@ -4,10 +4,13 @@ ghost use Rattle.samoa_model.specs.declared.record.Ext.{Ext};
 ghost use Rattle.samoa_model.specs.declared.record.Step.{Step};
 ghost use Rattle.samoa_model.specs.declared.script.Script.{Script};
 ghost use Rattle.samoa_serial.specs.SerialRun.{serial};
+ghost use Rattle.samoa_model.specs.Range.{IsInRange};
+ghost use Rattle.samoa_model.specs.Scripts.{decl_of};
+ghost use Rattle.samoa_invariant.specs.Play.{Play, turns};
 ghost use Rattle.samoa_invariant.specs.Inv.{Invariant};
 ghost use Rattle.samoa_invariant.specs.Parts.{SixParts};
-ghost use Rattle.samoa_invariant.specs.State.{AllEnded, NothingOut, Reached, empty, left};
-ghost use Rattle.samoa_invariant.specs.Runs.{ArePoints, GoesOn, IsDue, IsRun, IsServed, Trace, after_step, cleared, opening_trace, play, state, with_clear, with_ext, with_step};
+ghost use Rattle.samoa_invariant.specs.State.{AllEnded, Core, NothingOut, Reached, admit, left, named};
+ghost use Rattle.samoa_invariant.specs.Runs.{ArePoints, GoesOn, IsDue, IsRun, IsServed, Trace, after_step, cleared, ext_at, opening_trace, play, state, with_clear, with_ext, with_step};
 
 /// A run begins with nothing done, and grows by steps that are enabled and by clears where all have ended. What is
 /// admitted later changes nothing of it.
@@ -44,4 +47,11 @@ pub fn runs_are_serial()
 pub fn runs_go_on()
     ensures onward { (t : Trace) → IsRun t → (state t).stopped ≡ false → AllEnded (state t) ⊎ ((step : Step) × GoesOn step × IsDue t step) }
     ensures fewer { (t : Trace) (step : Step) → IsRun t → GoesOn step → IsDue t step → left (play t) (state (with_step t step)) < left (play t) (state t) }
+{}
+
+/// An admission adds to the steps still to come at most twice its handler steps, one for each microprotocol that its
+/// declaration names, and two; and its handler steps are at most five for each unit and four.
+pub fn admissions_add_few_steps()
+    ensures added { (play : Play) (core : Core) → left play (admit play core) ≤ left play core + (2 * turns play core.count + length (named (play.decl core.count)) + 2) }
+    ensures steps { (t : Trace) (k : ℕ) → IsInRange t.script → k < length t.exts → turns (play t) k ≤ 5 * (decl_of t.script (ext_at t.exts k)).budget + 4 }
 {}
