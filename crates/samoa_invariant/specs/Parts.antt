@@ -36,6 +36,7 @@ pub record EndedIsPast (P : Play) (core : Core) (k : ℕ) : Type 0 where
   pub idle : IsIdle (core.comp k)
   pub past : (p : ℕ) → 0 < weight (P.decl k) p → core.private k (P.node k) p ≤ core.local (P.node k) p
 
+-- the six parts together; the fifth says that calls are those of the serial run
 pub record SixParts (P : Play) (core : Core) : Type 0 where
   pub versions : VersionsAreSums P core
   pub steps : StepsAreInTurn P core

@@ -45,9 +45,11 @@ table_at P (suc k) v = if v == P.node k then P.change k (table_at P k v) else ta
 abbrev pub table_of : Play → ℕ → Table
 table_of P k = table_at P (suc k) (P.node k)
 
+-- the attempts of a computation
 abbrev pub attempts : Play → ℕ → Attempts
 attempts P k = attempts_of (P.decl k) (table_of P k)
 
+-- what a computation goes by
 abbrev pub rules : Play → ℕ → Rules
 rules P k = record { step = P.step k; attempt = attempts P k }
 
@@ -62,6 +64,7 @@ stood P (suc k) v p =
 abbrev pub whole_of : Play → ℕ → Ran
 whole_of P k = event_whole (rules P k) (P.budget k) (stood P k (P.node k)) (P.root k) (P.args k)
 
+-- computation k where it begins, on what the computations before it leave
 abbrev pub opened : Play → ℕ → Machine
 opened P k = opening (rules P k) (P.budget k) (stood P k (P.node k)) (P.root k) (P.args k)
 
@@ -77,6 +80,7 @@ turns P k = length (event_whole (rules P k) (P.budget k) (stood P k (P.node k)) 
 abbrev pub weight_at : Play → ℕ → ℕ → ℕ → ℕ
 weight_at P k v p = if v == P.node k then weight (P.decl k) p else zero
 
+-- the sum of the weights of the first k computations at a slot
 abbrev pub version : Play → ℕ → ℕ → ℕ → ℕ
 version P zero v p = zero
 version P (suc k) v p = version P k v p + weight_at P k v p
@@ -85,6 +89,7 @@ version P (suc k) v p = version P k v p + weight_at P k v p
 abbrev pub NotAt : Computation → ℕ → Type 0
 NotAt comp p = (c : Call) (m : Moment) → next_step comp ≡ Some (c, m) → c.handler.micro.0 ≢ p
 
+-- a computation after these outcomes, one after another
 abbrev pub drive : Attempts → Computation → List Outcome → Computation
 drive attempt comp [] = comp
 drive attempt comp (o ∷ os) = drive attempt (take_outcome attempt comp o) os
@@ -102,6 +107,7 @@ abbrev pub ends_call : Outcome → ℕ
 ends_call (Outcome.Done reply) = suc zero
 ends_call _ = zero
 
+-- whether a handler step is at p and ended a call
 abbrev pub done_one : Turn → ℕ → ℕ
 done_one t p = if p == t.call.handler.micro.0 then ends_call t.outcome else zero
 
@@ -110,6 +116,7 @@ abbrev pub done : List Turn → ℕ → ℕ
 done [] p = zero
 done (t ∷ ts) p = done_one t p + done ts p
 
+-- nothing is left: no call is active and none waits
 pub record IsIdle (comp : Computation) : Type 0 where
   pub active : comp.active ≡ []
   pub waiting : comp.waiting ≡ []

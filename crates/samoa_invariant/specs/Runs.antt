@@ -80,6 +80,7 @@ abbrev pub is_clear : List ℕ → ℕ → Bool
 is_clear [] made = false
 is_clear (c ∷ cs) made = (c == made) || is_clear cs made
 
+-- the core after so many steps, with the clear that is made there, if any
 abbrev pub clear_at : List ℕ → ℕ → model.Core → model.Core
 clear_at clears made core = if is_clear clears made then cleared core else core
 
@@ -110,6 +111,7 @@ pub record Trace : Type 0 where
   pub clears : List ℕ
   pub journal : List Step
 
+-- what the script, the cells and what was admitted fix
 abbrev pub play : Trace → Play
 play t = play_of t.script t.cells t.exts
 
