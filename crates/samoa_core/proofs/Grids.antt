@@ -1,8 +1,9 @@
 -- Lists with one row after another.
-use Rattle.std.proofs.Common.{◌≡◌, ◌≢◌, ◌⊎◌, inl, inr, ℕ, zero, suc, ◌+◌, ◌*◌, ◌<◌, ◌≤◌, refl, sym, ap, ◌∙◌, List, [], ◌∷◌, ◌++◌, length, set, Option, Some, None, length-append, arith, subst}
+use Rattle.std.proofs.Common.{◌≡◌, ◌≢◌, ◌⊎◌, inl, inr, ℕ, zero, suc, ◌+◌, ◌*◌, ◌<◌, refl, sym, ap, ◌∙◌, List, [], ◌∷◌, ◌++◌, length, set, Some, length-append, replicate, arith}
 use Rattle.std.specs.Prelude.{slice_get}
 use Rattle.std.proofs.lemmas.Nat.{mul-add-lt, same_from_place}
-use Rattle.samoa_core.specs.Slots.{Grid}
+use Rattle.std.proofs.lemmas.List.{length-replicate}
+use Rattle.samoa_core.specs.Slots.{Grid, Row}
 
 set-same : {A : Type 0} (xs : List A) (i : ℕ) (x : A) → i < length xs → slice_get (set xs i x) i ≡ Some x
 set-same [] i x lt = absurd (omega (arith, lt))
@@ -102,3 +103,35 @@ grid-row {A = A} rows columns cells row f grid as_long each =
         let size : length cells ≡ rows * columns = grid.size in
         let within : i * columns + j < rows * columns = grid-within rows columns i j before cj in
         slice_get-left {A = A} cells row (i * columns + j) (omega (arith, within, size)) ∙ grid.value i j before cj
+
+slice_get-replicate : {A : Type 0} (n : ℕ) (x : A) (k : ℕ) → k < n → slice_get (replicate n x) k ≡ Some x
+slice_get-replicate zero x k lt = absurd (omega (arith, lt))
+slice_get-replicate (suc n) x zero lt = refl
+slice_get-replicate (suc n) x (suc k) lt = slice_get-replicate n x k (omega (arith, lt))
+
+-- all are the same
+abbrev pub none_yet : ℕ → ℕ → ℕ
+none_yet v p = zero
+
+pub grid-zeros : (rows columns : ℕ) → Grid {A = ℕ} rows columns (replicate (rows * columns) 0) none_yet
+grid-zeros rows columns = record {
+  size = length-replicate (rows * columns) 0;
+  value = λ i j ri cj. slice_get-replicate (rows * columns) 0 (i * columns + j) (grid-within rows columns i j ri cj);
+}
+
+pub row-none : {A : Type 0} (f : ℕ → A) → Row 0 [] f
+row-none f = record { size = refl; value = λ i lt. absurd (omega (arith, lt)) }
+
+-- one item of a row is written
+pub row-set : {A : Type 0} (rows : ℕ) (cells : List A) (f g : ℕ → A) (k : ℕ) (x : A) → k < rows → Row rows cells f → g k ≡ x → ((i : ℕ) → i ≢ k → g i ≡ f i)
+    → Row rows (set cells k x) g
+row-set {A = A} rows cells f g k x lt row here others = record { size = length-set cells k x ∙ row.size; value = λ i below. go i below (same_or_not i k) }
+  where
+    go : (i : ℕ) → i < rows → (i ≡ k) ⊎ (i ≢ k) → slice_get (set cells k x) i ≡ Some (g i)
+    go i below (inl e) =
+        let size : length cells ≡ rows = row.size in
+        ap (λ (j : ℕ). slice_get (set cells k x) j) e ∙ (set-same {A = A} cells k x (omega (arith, lt, size)) ∙ sym (ap (λ (j : ℕ). Some (g j)) e ∙ ap (λ (y : A). Some y) here))
+    go i below (inr ne) = set-other {A = A} cells k i x ne ∙ (row.value i below ∙ ap (λ (y : A). Some y) (sym (others i ne)))
+
+pub row-same : {A : Type 0} (rows : ℕ) (cells : List A) (f g : ℕ → A) → ((i : ℕ) → g i ≡ f i) → Row rows cells f → Row rows cells g
+row-same {A = A} rows cells f g e row = record { size = row.size; value = λ i below. row.value i below ∙ ap (λ (y : A). Some y) (sym (e i)) }
