@@ -34,19 +34,12 @@ use Rattle.samoa_core.specs.Since.{cleared_comps}
 use Rattle.samoa_core.specs.Slots.{Grid, Row, Slotted}
 use Rattle.samoa_core.specs.Turns.{Going, HasCome, IsAway, IsNext, IsReady, box_of, taken}
 use Rattle.samoa_core.specs.Kept.{Fields, Kept, held_of, trace_of}
-use Rattle.samoa_core.proofs.Grids.{grid-same, grid-set, row-set}
+use Rattle.samoa_core.proofs.Grids.{grid-put, grid-same, grid-set, row-set}
 use Rattle.samoa_core.proofs.Keeps.{Stands, kept-with, moved}
 use Rattle.samoa_core.proofs.Names.{named_step}
 use Rattle.samoa_core.proofs.Facts.{IsCallOf, IsSound, call_of, next-within, sound}
 use Rattle.samoa_core.proofs.Rules.{decl-set, decl-within, table-of}
 use Rattle.samoa_core.proofs.Toll.{IsOutAt, out_at}
-
--- one cell of a table of numbers is put
-grid-put : {A : Type 0} (rows columns : ℕ) (cells : List A) (f : At A) (v p : ℕ) (x : A) → v < rows → p < columns → Grid rows columns cells f
-    → Grid rows columns (set cells (v * columns + p) x) (put_at f v p x)
-grid-put {A = A} rows columns cells f v p x lt below grid =
-    grid-set rows columns cells f (put_at f v p x) v p x lt below grid (put_at-here {A = A} f v p v p x refl refl)
-    (λ i j ne. put_at-else {A = A} f v p i j x ne)
 
 -- one item of a row that begins later is put
 row-put : {A : Type 0} (rows first : ℕ) (cells : List A) (f : ℕ → A) (k : ℕ) (x : A) → first ≤ k → k - first < rows → Row rows cells (λ i. f (first + i))

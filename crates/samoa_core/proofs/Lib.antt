@@ -11,3 +11,6 @@ pub mod Settling
 pub mod Since
 pub mod Tests
 pub mod Toll
+pub mod Taken
+pub mod Admitted
+pub mod Answered

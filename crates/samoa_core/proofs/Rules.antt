@@ -15,11 +15,11 @@ use Rattle.samoa_invariant.specs.Runs.{Trace, ext_at, play}
 use Rattle.samoa_core.specs.Known.{decl_number}
 
 -- where no binding changes, no table does
-caused-same : (script : Script) → script.changes ≡ [] → (cause : Cause) (table : Table) → caused script cause table ≡ table
+pub caused-same : (script : Script) → script.changes ≡ [] → (cause : Cause) (table : Table) → caused script cause table ≡ table
 caused-same script none (Event event) table = refl
 caused-same script none (Change change) table = ap (λ (cs : List ChangeDef). rebound (get_or cs change.0 no_change).table table) none
 
-table-at : (t : Trace) → IsBuilt t.script → (k v : ℕ) → table_at (play t) k v ≡ first_table t.script
+pub table-at : (t : Trace) → IsBuilt t.script → (k v : ℕ) → table_at (play t) k v ≡ first_table t.script
 table-at t built zero v = refl
 table-at t built (suc k) v = here (v == (play t).node k) ∙ table-at t built k v
   where

@@ -55,7 +55,7 @@ not_out-other k j x e ne = ap (λ (y : Option ℕ). not_out_by j y) e ∙ if_els
 not_out-mine : (k : ℕ) (x : Option ℕ) → x ≡ Some k → not_out_by k x ≡ zero
 not_out-mine k x e = ap (λ (y : Option ℕ). not_out_by k y) e ∙ if_here {A = ℕ} k k zero (suc zero) refl
 
-spare-most : (b : Bool) (home : ℕ) → spare_when b home ≤ 1
+pub spare-most : (b : Bool) (home : ℕ) → spare_when b home ≤ 1
 spare-most true home = omega arith
 spare-most false home = omega arith
 

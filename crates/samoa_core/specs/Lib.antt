@@ -1,4 +1,5 @@
 pub mod Known
+pub mod Admission
 pub mod Since
 pub mod Places
 pub mod Turns

@@ -1,6 +1,8 @@
 //! A core, which has several computations open at once and makes their steps.
 #![tactic(auto)]
 
+mod admission;
+mod answers;
 mod cells;
 mod kernel;
 mod moves;
