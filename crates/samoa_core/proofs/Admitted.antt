@@ -1,11 +1,10 @@
 -- What an admission keeps of the fields of a core.
-use Rattle.std.proofs.Common.{arith, ◌≡◌, ◌≢◌, ◌⊎◌, inl, inr, ℕ, zero, suc, ◌+◌, ◌-◌, ◌*◌, ◌<◌, ◌≤◌, refl, sym, ap, subst, ◌∙◌, List, [], ◌∷◌, ◌++◌, length, length-append, get_or, min, Bool, true, false, Option, Some, None, ◌==◌, if◌then◌else◌}
-use Rattle.std.specs.Prelude.{slice_get}
+use Rattle.std.proofs.Common.{arith, ◌≡◌, ◌≢◌, ◌⊎◌, inl, inr, ℕ, zero, suc, ◌+◌, ◌-◌, ◌*◌, ◌<◌, ◌≤◌, refl, sym, ap, subst, ◌∙◌, List, [], ◌∷◌, ◌++◌, length, length-append, get_or, min, Bool, true, false, Option, Some, None, if◌then◌else◌}
 use Rattle.std.proofs.lemmas.List.{get_or_append_left, get_or_push}
 use Rattle.samoa_model.specs.Allowed.{declares, weight}
 use Rattle.samoa_model.specs.Cells.{cells_of}
-use Rattle.samoa_model.specs.Range.{IsBuilt, IsExtOf, IsInRange, IsSet}
-use Rattle.samoa_model.specs.Scripts.{Table, decl_of, first_table, root_of}
+use Rattle.samoa_model.specs.Range.{IsExtOf, IsSet}
+use Rattle.samoa_model.specs.Scripts.{Table, decl_of, first_table}
 use Rattle.samoa_model.specs.declared.handler.Moment.{Moment}
 use Rattle.samoa_model.specs.declared.record.Ext.{Ext}
 use Rattle.samoa_model.specs.declared.record.Step.{Step}
@@ -25,15 +24,13 @@ use Rattle.samoa_invariant.specs.State.{home_of, left, left_of, named, put, shor
 use Rattle.samoa_invariant.specs.Runs.{IsDue, IsRun, Trace, ext_at, no_ext, play, play_of, state, with_ext, with_step}
 use Rattle.samoa_invariant.proofs.Agrees.{turns-agree}
 use Rattle.samoa_invariant.proofs.Further.{version-most}
-use Rattle.samoa_invariant.proofs.Lefts.{home-most}
 use Rattle.samoa_invariant.proofs.Room.{admitted_left, turns-most}
 use Rattle.samoa_invariant.proofs.Scripted.{get_is}
 use Rattle.samoa_invariant.proofs.Slots.{put-else, put-here}
 use Rattle.samoa_invariant.proofs.Traces.{invariant, is_run-with_ext, is_run-with_step, state-ext, state-step}
 use Rattle.samoa_invariant.proofs.Versions.{same_or_not, weight_at-else, weight_at-is}
-use Rattle.samoa_core.specs.Admission.{admitted, raised, started, steps_of, taken_versions}
+use Rattle.samoa_core.specs.Admission.{raised, started, steps_of, taken_versions}
 use Rattle.samoa_core.specs.Known.{decl_number}
-use Rattle.samoa_core.specs.Places.{slot_in}
 use Rattle.samoa_core.specs.Room.{spare_of, spare_when, to_come}
 use Rattle.samoa_core.specs.Slots.{Grid, Row}
 use Rattle.samoa_core.specs.Kept.{Fields, Holds, Kept, held_of, trace_of}

@@ -1,23 +1,18 @@
 -- What is read of computations that have ended, and of slots.
-use Rattle.std.proofs.Common.{arith, ◌≡◌, ℕ, zero, suc, ◌+◌, ◌-◌, ◌*◌, ◌<◌, ◌≤◌, refl, sym, ap, subst, ◌∙◌, List, [], ◌∷◌, ◌++◌, length, Bool, true, false, Option, Some, None}
+use Rattle.std.proofs.Common.{arith, ◌≡◌, ℕ, zero, ◌+◌, ◌-◌, ◌*◌, ◌<◌, ◌≤◌, refl, sym, ap, subst, ◌∙◌, List, [], ◌∷◌, ◌++◌, length, Bool, true, Option, Some, None}
 use Rattle.std.specs.Prelude.{slice_get}
-use Rattle.samoa_model.specs.Scripts.{micro_at}
 use Rattle.samoa_model.specs.declared.record.Ending.{Ending}
 use Rattle.samoa_calls.specs.Handed.{ending_at, ending_of}
 use Rattle.samoa_calls.specs.Held.{Held}
 use Rattle.samoa_serial.specs.Calls.{Computation}
-use Rattle.samoa_serial.specs.Kinds.{Seen, shown}
-use Rattle.samoa_serial.specs.SerialRun.{serial}
-use Rattle.samoa_serial.specs.State.{State}
 use Rattle.samoa_serial.specs.declared.call.Active.{Active}
 use Rattle.samoa_serial.specs.declared.call.Waiting.{Waiting}
 use Rattle.samoa_invariant.specs.Inv.{Invariant, IsDone}
-use Rattle.samoa_invariant.specs.Play.{Play, point}
+use Rattle.samoa_invariant.specs.Play.{point}
 use Rattle.samoa_invariant.specs.State as model
-use Rattle.samoa_invariant.specs.Runs.{IsRun, IsServed, Trace, cleared, play, served_at, state, with_clear}
-use Rattle.samoa_invariant.proofs.Traces.{final, held_not_cleared, invariant, is_run-with_clear, served, state-clear}
-use Rattle.samoa_core.specs.Places.{seen_in, slot_in, unless_out}
-use Rattle.samoa_core.specs.Since.{cleared_comps}
+use Rattle.samoa_invariant.specs.Runs.{IsRun, IsServed, Trace, cleared, play, served_at, state}
+use Rattle.samoa_invariant.proofs.Traces.{held_not_cleared, invariant, is_run-with_clear, served, state-clear}
+use Rattle.samoa_core.specs.Places.{seen_in, unless_out}
 use Rattle.samoa_core.specs.Kept.{Fields, Holds, Kept, held_of, trace_of}
 use Rattle.samoa_core.specs.Slots.{Grid, Row}
 use Rattle.samoa_core.proofs.Grids.{grid-none, row-none}

@@ -14,3 +14,4 @@ pub mod Toll
 pub mod Taken
 pub mod Admitted
 pub mod Answered
+pub mod Later

@@ -84,3 +84,12 @@ pub record IsStill (base : model.Core) (t : Trace) : Type 0 where
 abbrev pub ended_to : model.Core → ℕ → Bool
 ended_to core zero = true
 ended_to core (suc n) = ended_to core n && core.ended n
+
+-- the same script, cells, admissions and clears, and the journal goes on
+pub record IsLater (t u : Trace) : Type 0 where
+  pub script : u.script ≡ t.script
+  pub cells : u.cells ≡ t.cells
+  pub exts : u.exts ≡ t.exts
+  pub clears : u.clears ≡ t.clears
+  pub steps : List Step
+  pub journal : u.journal ≡ t.journal ++ steps

@@ -5,7 +5,7 @@ ghost use Rattle.samoa_invariant.specs.State as model;
 ghost use Rattle.samoa_invariant.specs.Runs.{IsDue, Trace, play, state, with_step};
 ghost use Rattle.samoa_core.specs.Since.{cleared_comps};
 ghost use Rattle.samoa_core.specs.Places.{away, out_at, out_of, out_one};
-ghost use Rattle.samoa_core.specs.Scans.{IsStill, all_past, ended_to, ends, finished, is_past, may_end, may_release, released, releases, releases_of, settled, try_end, try_release, with_journal};
+ghost use Rattle.samoa_core.specs.Scans.{IsLater, IsStill, all_past, ended_to, ends, finished, is_past, may_end, may_release, released, releases, releases_of, settled, try_end, try_release, with_journal};
 
 use crate::cells::{has_turn, note, or_last, weight, write};
 use crate::kernel::Core;
@@ -70,6 +70,7 @@ impl<B: Micro> Core<B> {
         ensures trace { self.new ≡ released self.old }
         ensures none { (comp micro : ℕ) → IsDue self.new (Step.Release comp micro) → ⊥ }
         ensures still { IsStill (state self.old) self.new }
+        ensures later { IsLater self.old self.new }
         ensures not_more { model.left (play self.new) (state self.new) ≤ model.left (play self.old) (state self.old) }
     {
         let _admitted = self.admitted();
@@ -170,6 +171,7 @@ impl<B: Micro> Core<B> {
         ensures trace { self.new ≡ finished self.old }
         ensures none { (comp : ℕ) → IsDue self.new (Step.End comp) → ⊥ }
         ensures still { IsStill (state self.old) self.new }
+        ensures later { IsLater self.old self.new }
         ensures not_more { model.left (play self.new) (state self.new) ≤ model.left (play self.old) (state self.old) }
     {
         let _admitted = self.admitted();
@@ -261,6 +263,7 @@ impl<B: Micro> Core<B> {
         ensures trace { self.new ≡ settled self.old }
         ensures settled { model.IsSettled (play self.new) (state self.new) }
         ensures still { IsStill (state self.old) self.new }
+        ensures later { IsLater self.old self.new }
         ensures not_more { model.left (play self.new) (state self.new) ≤ model.left (play self.old) (state self.old) }
     {
         let _admitted = self.admitted();

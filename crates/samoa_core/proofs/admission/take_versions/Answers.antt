@@ -1,5 +1,4 @@
-use Rattle.std.proofs.Common.{arith, ◌≡◌, ◌∙◌, ◌≤◌, ◌<◌, ◌+◌, ◌*◌, ◌++◌, ◌∷◌, [], ℕ, List, length, ap, sym, refl, add-one, append_assoc, length-append}
-use Rattle.std.specs.Prelude.{vec_capacity}
+use Rattle.std.proofs.Common.{arith, ◌≡◌, ◌∙◌, ◌+◌, ◌∷◌, [], ℕ, List, length, ap, refl, add-one, append_assoc, length-append}
 use Rattle.samoa_core.specs.Admission.{raised, taken_versions, version_after}
 use Rattle.samoa_core.proofs.Taken.{length-raised, length-taken, raised-else}
 use Rattle.samoa_core.proofs.admission.take_versions.Goals as goal

@@ -1,4 +1,4 @@
-use Rattle.std.proofs.Common.{◌-◌, ◌≡◌, ◌++◌, ℕ, ◌≤◌, length}
+use Rattle.std.proofs.Common.{◌-◌, ◌≡◌, ◌++◌, ◌≤◌}
 use Rattle.std.specs.Prelude.{vec_capacity}
 use Rattle.samoa_core.specs.Admission.{raised, taken_versions}
 use Rattle.samoa_core.proofs.admission.take_versions.Given as goal

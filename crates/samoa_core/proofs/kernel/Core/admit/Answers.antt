@@ -33,8 +33,20 @@ invariant_of-self g c =
     let as_many : length c.prepared.new.clears.items ≡ length fs.clears = ap length was.clears in
     let steps_room = was.steps_room in
     let clears_room = was.clears_room in
-    rw (c.push_reserved.ensures.items, c.push_reserved-in-Ok.ensures.items, c.push_reserved-in-Ok-2.ensures.items, c.push_reserved-in-Ok-3.ensures.items,
-      c.push_reserved-in-Ok-3.ensures.capacity, was.exts, was.comps, was.ended, was.clears, was.journal, c.versions_of.ensures.private, was.private)
+    rw (
+      c.push_reserved.ensures.items,
+      c.push_reserved-in-Ok.ensures.items,
+      c.push_reserved-in-Ok-2.ensures.items,
+      c.push_reserved-in-Ok-3.ensures.items,
+      c.push_reserved-in-Ok-3.ensures.capacity,
+      was.exts,
+      was.comps,
+      was.ended,
+      was.clears,
+      was.journal,
+      c.versions_of.ensures.private,
+      was.private,
+    )
     (kept-admission fs c.args.ext c.len-comp.result (fs.held + c.cells_of.result) c.in-Ok.promised (vec_capacity c.prepared.new.clears) (vec_capacity c.prepared.new.journal)
     c.in-Ok.comp c.versions_of.new.global.items _ kept known few fits number
     (ap (λ (n : ℕ). fs.held + n) c.cells_of.ensures.cells)

@@ -3,6 +3,7 @@ use Rattle.samoa_model.specs.declared.record.Step.{Step}
 use Rattle.samoa_invariant.specs.Runs.{IsDue, Trace, state}
 use Rattle.samoa_core.specs.Scans.{finished}
 use Rattle.samoa_core.proofs.Settling.{Ended, IsFit, fit, no_end, none-ended}
+use Rattle.samoa_core.proofs.Later.{later-finished}
 use Rattle.samoa_core.proofs.kernel.Core.end_all.Goals as goal
 
 pub returns-clause-none : goal.returns-clause-none
@@ -17,3 +18,6 @@ returns-clause-still g c =
     let fits : IsFit t = fit t c.admitted-admitted.ensures.in_range c.admitted-admitted.ensures.built c.admitted-admitted.ensures.declares c.admitted-admitted.ensures.known in
     let a : Ended (state t) (finished t) (length t.exts) = none-ended t fits c.admitted-admitted.ensures.run c.admitted-admitted.ensures.all in
     rw c.end_each.ensures.trace (record { out = a.out; stopped = a.stopped })
+
+pub returns-clause-later : goal.returns-clause-later
+returns-clause-later g c = rw c.end_each.ensures.trace (later-finished c.args.self.now)
