@@ -1,5 +1,5 @@
 -- What is read of computations that have ended, and of slots.
-use Rattle.std.proofs.Common.{arith, ◌≡◌, ℕ, zero, ◌+◌, ◌-◌, ◌*◌, ◌<◌, ◌≤◌, refl, sym, ap, subst, ◌∙◌, List, [], ◌∷◌, ◌++◌, length, Bool, true, Option, Some, None}
+use Rattle.std.proofs.Common.{arith, ◌≡◌, ℕ, zero, ◌+◌, ◌-◌, ◌*◌, ◌<◌, ◌≤◌, min, refl, sym, ap, subst, ◌∙◌, List, [], ◌∷◌, ◌++◌, length, Bool, true, Option, Some, None}
 use Rattle.std.specs.Prelude.{slice_get}
 use Rattle.samoa_model.specs.declared.record.Ending.{Ending}
 use Rattle.samoa_calls.specs.Handed.{ending_at, ending_of}
@@ -16,6 +16,10 @@ use Rattle.samoa_core.specs.Places.{seen_in, unless_out}
 use Rattle.samoa_core.specs.Kept.{Fields, Holds, Kept, held_of, trace_of}
 use Rattle.samoa_core.specs.Slots.{Grid, Row}
 use Rattle.samoa_core.proofs.Grids.{grid-none, row-none}
+use Rattle.samoa_core.specs.Room.{to_come}
+use Rattle.samoa_invariant.specs.Runs.{ext_at}
+use Rattle.samoa_core.proofs.Ended.{ended-come}
+use Rattle.samoa_core.proofs.Rules.{decl-set}
 use Rattle.samoa_core.proofs.Since.{cleared-clear}
 
 -- a computation that has ended has its answer
@@ -45,16 +49,22 @@ slot-home fs node micro kept lt below home =
     ∙ (kept.holds.slots.value node micro lt below
     ∙ ap (λ (o : Option ℕ). Some (unless_out o (seen_in fs.script node micro ((state (trace_of fs)).boxes node micro)))) home)
 
-abbrev pub cleared_fields : Fields → List ℕ → ℕ → Fields
-cleared_fields fs clears first = record fs { held = 0; clears = clears; first = first; comps = []; private = []; ended = [] }
+abbrev pub cleared_fields : Fields → List ℕ → ℕ → ℕ → Fields
+cleared_fields fs clears first promised = record fs { held = 0; clears = clears; first = first; promised = promised; comps = []; private = []; ended = [] }
 
-pub kept-clear : (fs : Fields) (first : ℕ) → Kept fs → model.AllEnded (state (trace_of fs)) → 0 < (state (trace_of fs)).cells → first ≡ length fs.exts
-    → Kept (cleared_fields fs (fs.clears ++ length fs.journal ∷ []) first)
-kept-clear fs first kept all held is_first =
+pub kept-clear : (fs : Fields) (first promised : ℕ) → Kept fs → model.AllEnded (state (trace_of fs)) → 0 < (state (trace_of fs)).cells → first ≡ length fs.exts
+    → promised ≡ min fs.promised (3 * first)
+    → Kept (cleared_fields fs (fs.clears ++ length fs.journal ∷ []) first promised)
+kept-clear fs first promised kept all held is_first is_promised =
     let t : Trace = trace_of fs in
     let core : model.Core = state t in
     let count : core.count ≡ length fs.exts = kept.holds.admitted in
-    let new : Fields = cleared_fields fs (fs.clears ++ length fs.journal ∷ []) first in
+    let new : Fields = cleared_fields fs (fs.clears ++ length fs.journal ∷ []) first promised in
+    let enough : to_come (play t) core ≤ fs.promised = kept.holds.promised in
+    let few : to_come (play t) core ≤ 3 * core.count =
+    ended-come (play t) core (invariant t kept.is_run)
+    (λ k lt. decl-set fs.script (ext_at fs.exts k) kept.in_range kept.built (kept.known k (omega (arith, lt, count)))) all in
+    let room : length fs.journal + fs.promised ≤ fs.journal_room = kept.room in
     let none : zero ≡ length fs.exts - first = omega arith in
     let holds : Holds new (cleared core) = record {
       admitted = kept.holds.admitted;
@@ -69,7 +79,7 @@ kept-clear fs first kept all held is_first =
       past = λ k lt. all k (omega arith);
       named = λ k le lt. absurd (omega arith);
       stopped = kept.holds.stopped;
-      promised = kept.holds.promised;
+      promised = omega arith;
     } in
     record {
       in_range = kept.in_range;
@@ -82,6 +92,6 @@ kept-clear fs first kept all held is_first =
       first = is_first ∙ (sym count ∙ sym (cleared-clear t));
       first_most = omega arith;
       clears_room = λ some. absurd (omega (arith, some));
-      room = kept.room;
+      room = omega arith;
       holds = subst (λ (c : model.Core). Holds new c) (sym (state-clear t)) holds;
     }

@@ -15,3 +15,4 @@ pub mod Taken
 pub mod Admitted
 pub mod Answered
 pub mod Later
+pub mod Ended

@@ -1,5 +1,5 @@
 //! What a core answers of what has ended, and the clear.
-ghost use Rattle.std.specs.Prelude.{◌≡◌, ℕ, ◌<◌, ◌≤◌, ◌-◌, length, Some, None, true, nat_lt, slice_get, if◌then◌else◌};
+ghost use Rattle.std.specs.Prelude.{◌≡◌, ℕ, ◌<◌, ◌≤◌, ◌-◌, length, Some, None, true, nat_lt, min, slice_get, if◌then◌else◌};
 ghost use Rattle.samoa_model.specs.Scripts.{micro_at};
 ghost use Rattle.samoa_serial.specs.Kinds.{shown};
 ghost use Rattle.samoa_serial.specs.SerialRun.{serial};
@@ -79,6 +79,7 @@ impl<B: Micro> Core<B> {
         self.clears.push_reserved(self.journal.len() as u64);
         self.held = 0;
         self.first = self.exts.len() as u32;
+        self.promised = least(self.promised, 3 * self.first as u64);
         self.comps.clear();
         self.private.clear();
         self.ended.clear();
@@ -105,4 +106,10 @@ impl<B: Micro> Core<B> {
     {
         self.slots.show(node, micro.0)
     }
+}
+
+fn least(a: u64, b: u64) -> u64
+    ensures { result ≡ min a b }
+{
+    if a < b { a } else { b }
 }

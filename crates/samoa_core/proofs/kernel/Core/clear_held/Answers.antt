@@ -25,4 +25,4 @@ invariant_of-self g c =
     let steps = c.self.inside.journal.ok in
     let long : c.len.result ≡ length fs.journal = omega (arith, steps, c.len.ensures) in
     rw (c.push_reserved.ensures.items, long, c.push_reserved.ensures.capacity, c.clear.ensures.items, c.clear-2.ensures.items, c.clear-3.ensures.items)
-    (kept-clear fs c.len-2.result kept all held first)
+    (kept-clear fs c.len-2.result c.least-self-inside.result kept all held first c.least-self-inside.ensures)
