@@ -32,6 +32,8 @@ use Rattle.samoa_invariant.proofs.Versions.{same_or_not, weight_at-else, weight_
 use Rattle.samoa_core.specs.Admission.{raised, started, steps_of, taken_versions}
 use Rattle.samoa_core.specs.Known.{decl_number}
 use Rattle.samoa_core.specs.Room.{spare_of, spare_when, to_come}
+use Rattle.samoa_core.specs.Scans.{IsStill}
+use Rattle.samoa_core.specs.Admission.{admitted}
 use Rattle.samoa_core.specs.Slots.{Grid, Row}
 use Rattle.samoa_core.specs.Kept.{Fields, Holds, Kept, held_of, trace_of}
 use Rattle.samoa_core.proofs.Facts.{few}
@@ -324,3 +326,12 @@ kept-admission fs ext number held promised clears_room journal_room comp global 
     known_at : (j : ℕ) → j < suc (length fs.exts) → (j ≡ length fs.exts) ⊎ (j ≢ length fs.exts) → IsExtOf fs.script (ext_at (fs.exts ++ ext ∷ []) j)
     known_at j lt (inl e) = subst (λ (m : ℕ). IsExtOf fs.script (ext_at (fs.exts ++ ext ∷ []) m)) (sym e) (subst (λ (x : Ext). IsExtOf fs.script x) (sym (new_ext fs.exts ext)) known)
     known_at j lt (inr ne) = subst (λ (x : Ext). IsExtOf fs.script x) (sym (old_ext fs.exts ext j (omega arith))) (kept.known j (omega arith))
+
+-- an admission takes no box out, and stops nothing
+pub still-admitted : (t : Trace) (ext : Ext) → IsRun t → IsStill (state t) (admitted t ext)
+still-admitted t ext run =
+    let t1 : Trace = with_ext t ext in
+    let step : Step = Step.Admit (length t.exts + 1) in
+    let same : state (with_step t1 step) ≡ model.admit (play t1) (state t) =
+    state-step t1 step (is_run-with_ext t ext run) ∙ ap (λ (c : model.Core). model.admit (play t1) c) (state-ext t ext run) in
+    record { out = λ v p. ap (λ (c : model.Core). c.out v p) same; stopped = ap (λ (c : model.Core). c.stopped) same }

@@ -10,10 +10,11 @@ use Rattle.samoa_serial.specs.declared.call.Waiting.{Waiting}
 use Rattle.samoa_invariant.specs.Inv.{Invariant, IsDone}
 use Rattle.samoa_invariant.specs.Play.{point}
 use Rattle.samoa_invariant.specs.State as model
-use Rattle.samoa_invariant.specs.Runs.{IsRun, IsServed, Trace, cleared, play, served_at, state}
+use Rattle.samoa_invariant.specs.Runs.{IsRun, IsServed, Trace, cleared, play, served_at, state, with_clear}
 use Rattle.samoa_invariant.proofs.Traces.{held_not_cleared, invariant, is_run-with_clear, served, state-clear}
 use Rattle.samoa_core.specs.Places.{seen_in, unless_out}
 use Rattle.samoa_core.specs.Kept.{Fields, Holds, Kept, held_of, trace_of}
+use Rattle.samoa_core.specs.Scans.{IsStill}
 use Rattle.samoa_core.specs.Slots.{Grid, Row}
 use Rattle.samoa_core.proofs.Grids.{grid-none, row-none}
 use Rattle.samoa_core.specs.Room.{to_come}
@@ -95,3 +96,10 @@ kept-clear fs first promised kept all held is_first is_promised =
       room = omega arith;
       holds = subst (λ (c : model.Core). Holds new c) (sym (state-clear t)) holds;
     }
+
+-- nor does a clear
+pub still-cleared : (t : Trace) → IsStill (state t) (with_clear t)
+still-cleared t = record { out = λ v p. ap (λ (c : model.Core). c.out v p) (state-clear t); stopped = ap (λ (c : model.Core). c.stopped) (state-clear t) }
+
+pub none-held : (t : Trace) → (state (with_clear t)).cells ≡ 0
+none-held t = ap (λ (c : model.Core). c.cells) (state-clear t)

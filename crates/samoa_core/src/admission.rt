@@ -9,6 +9,7 @@ ghost use Rattle.samoa_bind.specs.Bound.{first_tables};
 ghost use Rattle.samoa_invariant.specs.State.{named};
 ghost use Rattle.samoa_invariant.specs.Runs.{Trace, play, state};
 ghost use Rattle.samoa_core.specs.Admission.{admitted, raised, started, steps_of as steps_to_come, taken_versions, version_after};
+ghost use Rattle.samoa_core.specs.Scans.{IsStill};
 
 use crate::cells::weight;
 use crate::kernel::Core;
@@ -24,6 +25,20 @@ impl<B: Micro> Core<B> {
     /// Its versions are taken in this one step, and afterwards none of its steps takes memory. Where there was no memory,
     /// nothing has changed.
     pub fn admit(&mut self, alloc: Global, ext: Ext) -> Result<u32, (Ext, NoMemory)>
+        requires fits { (state self.old).cells + computation_cells self.old.script ext ≤ self.old.cells }
+        requires few { length self.old.exts < 100000 }
+        requires known { IsExtOf self.old.script ext }
+        ensures number { IfOk result (λ comp. comp ≡ length self.old.exts + 1) }
+        ensures step { OnOk result (self.new ≡ admitted self.old ext) }
+        ensures still { OnOk result (IsStill (state self.old) self.new) }
+        ensures back { IfErr result (λ e. e.0 ≡ ext) }
+        ensures err { OnErr result (self.new ≡ self.old) }
+    {
+        let _admitted = self.admitted();
+        self.take(alloc, ext)
+    }
+
+    fn take(&mut self, alloc: Global, ext: Ext) -> Result<u32, (Ext, NoMemory)>
         requires fits { (state self.old).cells + computation_cells self.old.script ext ≤ self.old.cells }
         requires few { length self.old.exts < 100000 }
         requires known { IsExtOf self.old.script ext }

@@ -6,6 +6,7 @@ ghost use Rattle.samoa_serial.specs.SerialRun.{serial};
 ghost use Rattle.samoa_calls.specs.Handed.{ending_of};
 ghost use Rattle.samoa_invariant.specs.State.{AllEnded};
 ghost use Rattle.samoa_invariant.specs.Runs.{Trace, served_at, state, with_clear};
+ghost use Rattle.samoa_core.specs.Scans.{IsStill};
 ghost use Rattle.samoa_core.specs.Since.{cleared_comps};
 
 use crate::kernel::Core;
@@ -64,7 +65,9 @@ impl<B: Micro> Core<B> {
     /// Gives the cells back and drops the entries, where all have ended. Where no cells were held, nothing has changed.
     pub fn clear(&mut self)
         requires { AllEnded (state self.old) }
-        ensures { self.new ≡ (if nat_lt 0 (state self.old).cells then with_clear self.old else self.old) }
+        ensures clear { self.new ≡ (if nat_lt 0 (state self.old).cells then with_clear self.old else self.old) }
+        ensures still { IsStill (state self.old) self.new }
+        ensures cells { (state self.new).cells ≡ 0 }
     {
         if 0 < self.held {
             self.clear_held();
