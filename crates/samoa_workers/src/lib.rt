@@ -2,5 +2,7 @@
 #![tactic(auto)]
 
 mod batch;
+#[cfg(test)]
+mod tests;
 
 pub use batch::{Batch, drain};

@@ -1,0 +1,197 @@
+//! Two computations that are admitted together.
+ghost use Rattle.std.specs.Prelude.{◌≡◌, ◌<◌, ◌≤◌, ◌∷◌, [], All, IfOk, length, true, OnOk};
+ghost use Rattle.samoa_model.specs.Cells.{need};
+ghost use Rattle.samoa_model.specs.Range.{IsBuilt, IsInRange};
+ghost use Rattle.samoa_model.specs.declared.script.Decl.{Decl};
+ghost use Rattle.samoa_micro.specs.Covers.{Covers};
+ghost use Rattle.samoa_core.specs.Known.{DeclaresKnown};
+ghost use Rattle.samoa_core.specs.Scans.{IsStill};
+ghost use Rattle.samoa_invariant.specs.State as model;
+ghost use Rattle.samoa_invariant.specs.Runs.{play, state};
+
+use crate::{Batch, drain};
+use samoa_core::Core;
+use samoa_micro::Stock;
+use samoa_model::{
+    Cause, Decl, DeclDef, EventDef, EventId, Ext, HandlerId, Kind, Listed, MicroDef, MicroId, Name,
+    NoMemory, NodeId, Script, Step, Words,
+};
+use samoa_prog::Prog;
+use std::alloc::Global;
+use std::process::Abort;
+use std::test::Fail;
+
+const FIRST: HandlerId = HandlerId {
+    micro: MicroId(0),
+    index: 0,
+};
+
+const SECOND: HandlerId = HandlerId {
+    micro: MicroId(1),
+    index: 0,
+};
+
+/// A microprotocol whose handlers are done at once.
+fn micro(alloc: Global, name: &str) -> MicroDef
+    requires some { 0 < length name.now }
+    requires few { length name.now ≤ 33 }
+    ensures ports { result.ports ≡ [] }
+    ensures changes { result.changes ≡ [] }
+    ensures handlers { result.handlers ≡ [] }
+{
+    MicroDef {
+        name: Name::new(name),
+        kind: Kind::Prog,
+        nums: Words::new(),
+        ports: Listed::from_vec(Vec::new(alloc)),
+        changes: Listed::from_vec(Vec::new(alloc)),
+        handlers: Listed::from_vec(Vec::new(alloc)),
+    }
+}
+
+fn set_of(name: &str, micros: Vec<u32>) -> DeclDef
+    requires some { 0 < length name.now }
+    requires few { length name.now ≤ 33 }
+    ensures budget { result.budget ≡ 32 }
+    ensures decl { result.decl ≡ Decl.Set micros.items }
+{
+    DeclDef {
+        name: Name::new(name),
+        budget: 32,
+        decl: Decl::Set {
+            micros: Listed::from_vec(micros),
+        },
+    }
+}
+
+fn event(name: &str, decl: u32, handlers: Vec<HandlerId>) -> EventDef
+    requires some { 0 < length name.now }
+    requires few { length name.now ≤ 33 }
+    ensures decl { result.decl ≡ decl }
+    ensures handlers { result.handlers ≡ handlers.items }
+{
+    EventDef {
+        name: Name::new(name),
+        decl,
+        handlers: Listed::from_vec(handlers),
+    }
+}
+
+/// One node with the microprotocols `a` and `b`, each with an event of its own.
+fn two_sets(alloc: Global) -> Result<Script, NoMemory>
+    ensures range { IfOk result IsInRange }
+    ensures built { IfOk result IsBuilt }
+    ensures declares { IfOk result DeclaresKnown }
+    ensures nodes { IfOk result (λ script. script.nodes ≡ 1) }
+    ensures events { IfOk result (λ script. length script.events ≡ 2) }
+    ensures need { IfOk result (λ script. need script ≡ 528) }
+{
+    let micros = [micro(alloc, "a"), micro(alloc, "b")];
+    let first = Vec::from_array(alloc, [FIRST])?;
+    let second = Vec::from_array(alloc, [SECOND])?;
+    let events = [event("ag", 0, first), event("bg", 1, second)];
+    let first = Vec::from_array(alloc, [0])?;
+    let second = Vec::from_array(alloc, [1])?;
+    let decls = [set_of("sa", first), set_of("sb", second)];
+    let micros = Vec::from_array(alloc, micros)?;
+    let decls = Vec::from_array(alloc, decls)?;
+    let events = Vec::from_array(alloc, events)?;
+    Ok(Script {
+        nodes: 1,
+        ticks: 1,
+        micros: Listed::from_vec(micros),
+        decls: Listed::from_vec(decls),
+        events: Listed::from_vec(events),
+        changes: Listed::from_vec(Vec::new(alloc)),
+        does: Listed::from_vec(Vec::new(alloc)),
+        losses: Listed::from_vec(Vec::new(alloc)),
+        crashes: Listed::from_vec(Vec::new(alloc)),
+    })
+}
+
+fn covered(script: &Script, stock: &Stock<Prog>) -> Result<(), Fail>
+    ensures { OnOk result (Covers script.now stock.now) }
+{
+    if stock.covers(script) {
+        Ok(())
+    } else {
+        Err("the stock is too small".into())
+    }
+}
+
+/// A core in which these events are admitted together.
+fn with_two(alloc: Global, rt: &impl Abort, events: (u32, u32)) -> Result<Core<Prog>, Fail>
+    requires first { events.0 < 2 }
+    requires second { events.1 < 2 }
+    ensures settled { IfOk result (λ core. model.IsSettled (play core) (state core)) }
+    ensures home { IfOk result (λ core. model.NothingOut (state core)) }
+{
+    let script = two_sets(alloc)?;
+    let stock = Stock::new(Vec::from_array(alloc, [Prog::new(alloc), Prog::new(alloc)])?);
+    covered(&script, &stock)?;
+    let mut core = Core::new(alloc, &script, stock, 2000)?;
+    admit_one(alloc, rt, &mut core, events.0)?;
+    admit_one(alloc, rt, &mut core, events.1)?;
+    core.settle();
+    Ok(core)
+}
+
+/// Admits the event of a microprotocol, in a core in which nothing is out.
+fn admit_one(alloc: Global, rt: &impl Abort, core: &mut Core<Prog>, event: u32) -> Result<(), Fail>
+    requires event { event < 2 }
+    requires nodes { core.old.script.nodes ≡ 1 }
+    requires events { length core.old.script.events ≡ 2 }
+    ensures script { core.new.script ≡ core.old.script }
+    ensures still { OnOk result (IsStill (state core.old) core.new) }
+{
+    let ext = Ext {
+        node: NodeId(0),
+        tick: 1,
+        cause: Cause::Event(EventId(event)),
+        args: Words::new(),
+    };
+    assert!(rt; core.fits(&ext));
+    assert!(rt; core.admitted() < 100000);
+    match core.admit(alloc, ext) {
+        Ok(_) => Ok(()),
+        Err((_, fault)) => Err(fault.into()),
+    }
+}
+
+#[test]
+fn drains_two(rt: HostRuntime) -> Result<(), Fail> {
+    let mut core = with_two(rt.alloc(), &rt, (0, 1))?;
+    assert_eq!(rt; drain(rt.alloc(), &mut core), Batch::Done);
+    let steps = [
+        Step::Admit { comp: 1 },
+        Step::Admit { comp: 2 },
+        Step::Enter { comp: 1, micro: 0 },
+        Step::Leave { comp: 1 },
+        Step::Release { comp: 1, micro: 0 },
+        Step::End { comp: 1 },
+        Step::Enter { comp: 2, micro: 1 },
+        Step::Leave { comp: 2 },
+        Step::Release { comp: 2, micro: 1 },
+        Step::End { comp: 2 },
+    ];
+    assert_eq!(rt; core.journal(), steps.as_slice());
+    Ok(())
+}
+
+/// The next that may begin once the first has, where the second is at this microprotocol.
+fn next_of_two(alloc: Global, rt: &impl Abort, second: u32) -> Result<Option<u32>, Fail>
+    requires { second < 2 }
+{
+    let mut core = with_two(alloc, rt, (0, second))?;
+    if let Some(comp) = core.pick() {
+        let _turn = core.enter(comp);
+    }
+    Ok(core.pick())
+}
+
+#[test]
+fn waits_for_its_turn(rt: HostRuntime) -> Result<(), Fail> {
+    assert_eq!(rt; next_of_two(rt.alloc(), &rt, 1)?, Some(2));
+    assert_eq!(rt; next_of_two(rt.alloc(), &rt, 0)?, None);
+    Ok(())
+}
