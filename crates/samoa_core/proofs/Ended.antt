@@ -1,5 +1,5 @@
 -- How little is to come where all have ended.
-use Rattle.std.proofs.Common.{arith, ◌≡◌, ◌⊎◌, inl, inr, ℕ, zero, suc, ◌+◌, ◌-◌, ◌*◌, ◌<◌, ◌≤◌, refl, sym, ap, subst, ◌∙◌, List, [], ◌∷◌, length, take, Bool, true, false, ◌||◌, ◌==◌, eq-eqb, if◌then◌else◌}
+use Rattle.std.proofs.Common.{arith, ◌≡◌, inl, inr, ℕ, zero, suc, ◌*◌, ◌<◌, ◌≤◌, refl, sym, ap, ◌∙◌, List, [], ◌∷◌, length, take, Bool, true, false, ◌||◌, ◌==◌, eq-eqb, if◌then◌else◌}
 use Rattle.std.specs.List.{list_any}
 use Rattle.std.specs.Prelude.{nat_lt}
 use Rattle.std.proofs.lemmas.Bool.{ltb-true}
@@ -8,7 +8,6 @@ use Rattle.samoa_model.specs.Allowed.{declares, weight}
 use Rattle.samoa_model.specs.Range.{IsSet}
 use Rattle.samoa_model.specs.declared.script.Decl.{Decl}
 use Rattle.samoa_serial.specs.Alone.{Machine, next_step}
-use Rattle.samoa_serial.specs.Calls.{Computation}
 use Rattle.samoa_serial.specs.World.{Turn}
 use Rattle.samoa_serial.proofs.Point.{turns-after}
 use Rattle.samoa_invariant.specs.Inv.{Invariant, IsDone}

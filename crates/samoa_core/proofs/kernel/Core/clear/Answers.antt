@@ -1,4 +1,4 @@
-use Rattle.std.proofs.Common.{◌≡◌, ℕ, sym, subst}
+use Rattle.std.proofs.Common.{◌≡◌, sym, subst}
 use Rattle.samoa_invariant.specs.Runs.{Trace, state}
 use Rattle.samoa_core.specs.Scans.{IsStill}
 use Rattle.samoa_core.proofs.Answered.{none-held, still-cleared}
