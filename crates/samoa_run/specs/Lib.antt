@@ -1,3 +1,5 @@
+pub mod Built
+pub mod Due
 pub mod Reading
 pub mod Running
 pub mod Schedule

@@ -1,30 +1,23 @@
-//! Why bytes are refused.
-ghost use Rattle.std.specs.Prelude.{◌≡◌};
-ghost use Rattle.samoa_script.specs.declared.fault.FirstFault.TheVariants.{Memory};
+//! Why bytes hold no script.
+use samoa_model::Name;
 
-use std::alloc::{AllocError, AllocFailed};
-
-/// Why bytes are refused.
-#[derive(Clone, Copy, Debug, PartialEq, Eq)]
-pub enum FirstFault {
-    /// They hold no script of the first form.
-    NotFirst,
+/// Why bytes hold no script.
+#[derive(Debug, Drop)]
+pub enum ScriptFault {
+    /// There are more than 1,048,576 bytes.
+    TooLong,
+    /// The bytes are no JSON text.
+    NotJson,
+    /// A required key is absent.
+    Missing { key: Name },
+    /// The value of a key has another form.
+    WrongForm { key: Name },
+    /// A name is used that isn't defined.
+    Unknown { name: Name },
+    /// A name stands a second time.
+    Twice { name: Name },
+    /// A number, a list or a total is above its limit.
+    Over { name: Name, limit: u64 },
     /// There was no memory.
     Memory,
-}
-
-impl From<AllocError> for FirstFault {
-    ghost from_gives = { λ _ e. e ≡ Memory };
-
-    fn from(_error: AllocError) -> FirstFault {
-        FirstFault::Memory
-    }
-}
-
-impl<T: Drop> From<AllocFailed<T>> for FirstFault {
-    ghost from_gives = { λ _ e. e ≡ Memory };
-
-    fn from(_error: AllocFailed<T>) -> FirstFault {
-        FirstFault::Memory
-    }
 }

@@ -1,14 +1,8 @@
-//! Reads a script of the first form: one node, and one scripted microprotocol with one declaration and one event.
+//! Reads scripts.
 #![tactic(auto)]
 
-mod code;
 mod fault;
-mod listing;
-mod objects;
 mod reading;
-#[cfg(test)]
-mod tests;
-mod tree;
 
-pub use fault::FirstFault;
-pub use reading::{held_limits, one_script, read_first};
+pub use fault::ScriptFault;
+pub use reading::{one_reading, read_script};
