@@ -19,5 +19,5 @@ some_byte text h = omega (arith, joined text (and_parts _ _ h).0)
 
 pub few_bytes : (text : List ℕ) → is_handler_text text ≡ true → length text ≤ 33
 few_bytes text h =
-    let names = and_parts (is_script_name (micro_part text)) (is_script_name (handler_part text)) (and_parts _ _ h).1 in
+    let names : (is_script_name (micro_part text) ≡ true) × (is_script_name (handler_part text) ≡ true) = and_parts (is_script_name (micro_part text)) (is_script_name (handler_part text)) (and_parts _ _ h).1 in
     omega (arith, joined text (and_parts _ _ h).0, name_length (micro_part text) names.0, name_length (handler_part text) names.1)

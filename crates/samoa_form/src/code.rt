@@ -1,7 +1,7 @@
 //! The instructions of scripted handlers.
 ghost use Rattle.std.specs.Prelude.{◌≡◌, map};
 ghost use Rattle.serde_json.specs.View.{view};
-ghost use Rattle.samoa_grammar.specs.Instrs.{place_named as named, place_in, number_between as between, count_in, skip_in, position_in, after_one as one_after, after_two as two_after, after_three as three_after, after_word as words_after};
+ghost use Rattle.samoa_grammar.specs.Instrs.{place_named as named, place_in, number_between as between, count_in, skip_in, position_in, after_one as one_after, after_two as two_after, after_three as three_after, after_word as words_after, instr_in};
 
 use crate::lists::Item;
 use crate::tree::items;

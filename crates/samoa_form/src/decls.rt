@@ -1,8 +1,8 @@
 //! Declarations.
-ghost use Rattle.std.specs.Prelude.{◌≡◌, ◌≤◌, ◌<◌, length, codes, Some, true, false, unwrap_or, IfOk, MatchOption};
+ghost use Rattle.std.specs.Prelude.{◌≡◌, ◌≤◌, ◌<◌, length, map, codes, Some, true, false, unwrap_or, IfOk, MatchOption};
 ghost use Rattle.serde_json.specs.View.{view};
 ghost use Rattle.samoa_grammar.specs.Tests.{object_fault, form_test, required as required_of};
-ghost use Rattle.samoa_grammar.specs.Forms.{form_named as named, form_in as form_of, is_form, decl_keys, body_fault, body_of, is_edge, edge_of};
+ghost use Rattle.samoa_grammar.specs.Forms.{form_named as named, form_in as form_of, is_form, decl_keys, body_fault, body_of, are_two_handlers, edge_among as among, is_edge, edge_of};
 ghost use Rattle.samoa_form.specs.Reads.{Reads, Stops};
 
 use crate::cells::{
@@ -34,18 +34,26 @@ impl Part for BoundDraft {
 }
 
 /// Two names of handlers.
+fn edge_among(list: &[Value]) -> Option<EdgeDraft>
+    ensures { MatchOption result (are_two_handlers (map view list.now) ≡ false)
+        (λ e. (are_two_handlers (map view list.now) ≡ true) × (e ≡ among (map view list.now))) }
+{
+    let (from, rest) = list.split_first()?;
+    let (to, rest) = rest.split_first()?;
+    if let Some(_) = rest.split_first() {
+        return None;
+    }
+    let from = handler_name(from)?;
+    let to = handler_name(to)?;
+    Some(EdgeDraft { from, to })
+}
+
+/// An edge of a route.
 fn edge(value: &Value) -> Option<EdgeDraft>
     ensures { MatchOption result (is_edge (view value.now) ≡ false)
         (λ e. (is_edge (view value.now) ≡ true) × (e ≡ edge_of (view value.now))) }
 {
-    match items(value)? {
-        [from, to] => {
-            let from = handler_name(from)?;
-            let to = handler_name(to)?;
-            Some(EdgeDraft { from, to })
-        }
-        _ => None,
-    }
+    edge_among(items(value)?)
 }
 
 impl Item for EdgeDraft {

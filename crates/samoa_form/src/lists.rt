@@ -31,9 +31,15 @@ pub fn numbers_in(value: &Value, key: &str) -> Result<Words, Stop>
     Ok(words(list))
 }
 
-#[tactic(auto, using(crate::proofs::Lists::all_along))]
+#[tactic(auto, using(crate::proofs::Refused::all_along))]
 fn are_numbers(list: &[Value]) -> bool
     ensures { result ≡ list_all numbers (map view list.now) }
+{
+    is_number_each(list)
+}
+
+fn is_number_each(list: &[Value]) -> bool
+    ensures { result ≡ list_all (λ item. numbers (view item)) list.now }
 {
     list.iter().all(|item| is_number(item))
 }
@@ -103,7 +109,7 @@ pub fn items_in<T: Item + Drop>(
     Ok(Listed::from_vec(found))
 }
 
-#[tactic(auto, using(crate::proofs::Lists::refused_at))]
+#[tactic(auto, using(crate::proofs::Refused::refused_at))]
 fn each_item<T: Item + Drop>(alloc: Global, key: &str, list: &[Value]) -> Result<Vec<T>, Stop>
     requires some { 0 < length key.now }
     requires few { length key.now ≤ 33 }

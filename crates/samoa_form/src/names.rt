@@ -101,7 +101,7 @@ pub fn names_in(
     Ok(Listed::from_vec(found))
 }
 
-#[tactic(auto, using(crate::proofs::Lists::refused_at))]
+#[tactic(auto, using(crate::proofs::Refused::refused_at))]
 fn each_name(alloc: Global, key: &str, form: NameForm, list: &[Value]) -> Result<Vec<Name>, Stop>
     requires some { 0 < length key.now }
     requires few { length key.now ≤ 33 }

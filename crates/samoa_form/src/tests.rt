@@ -6,7 +6,7 @@ use std::test::Fail;
 
 /// A script with a part of each kind.
 const WHOLE: &str =
-    r#"{"version":1,"nodes":2,"ticks":3,"micros":[{"name":"a","kind":"prog","nums":[5],"ports":["e"],"changes":["c"],"handlers":[{"name":"h","code":[["set","r0",7],["send","x3",0,4],["done",1]]}]},{"name":"l","kind":"link"}],"decls":[{"name":"s","form":"set","micros":["a"]},{"name":"b","form":"bound","bounds":[{"micro":"a","calls":3}]},{"name":"r","form":"route","roots":["a.h"],"edges":[["a.h","l.send"]]}],"events":[{"name":"e","decl":"r","handlers":["a.h"]}],"changes":[{"name":"c","event":"e","table":[{"event":"e","handlers":[]}]}],"do":[{"tick":1,"node":0,"event":"e","args":[1]},{"tick":1,"node":0,"change":"c"}],"lose":[{"from":0,"to":1,"first":0,"last":9}],"crash":[{"node":1,"tick":9}]}"#;
+    r#"{"version":1,"nodes":2,"ticks":3,"micros":[{"name":"a","kind":"prog","nums":[5],"ports":["e"],"changes":["c"],"handlers":[{"name":"h","code":[["set","r0",7],["send","x3",0,4],["done",1]]}]},{"name":"l","kind":"link","ports":["e"]}],"decls":[{"name":"s","form":"set","micros":["a"]},{"name":"b","form":"bound","bounds":[{"micro":"a","calls":3}]},{"name":"r","form":"route","roots":["a.h"],"edges":[["a.h","l.send"]]}],"events":[{"name":"e","decl":"r","handlers":["a.h"]}],"changes":[{"name":"c","event":"e","table":[{"event":"e","handlers":[]}]}],"do":[{"tick":1,"node":0,"event":"e","args":[1]},{"tick":1,"node":0,"change":"c"}],"lose":[{"from":0,"to":1,"first":0,"last":9}],"crash":[{"node":1,"tick":9}]}"#;
 
 /// What stands in the whole script, what stands in its place, and the first fault then: its kind, its name and its limit.
 const BENT: [(&str, &str, &str, &str, u64); 24] = [
