@@ -1,5 +1,5 @@
 -- A tree without a fault of the form means a draft within its limits.
-use Rattle.std.proofs.Common.{◌≡◌, ℕ, ◌≤◌, ◌<◌, Bool, true, false, ◌&&◌, cond, List, [], ◌∷◌, length, map, nat_le, nat_lt, Option, Some, None, unwrap_or, codes, refl, arith}
+use Rattle.std.proofs.Common.{◌≡◌, ℕ, ◌≤◌, Bool, true, false, ◌&&◌, cond, List, [], ◌∷◌, length, map, nat_le, nat_lt, Option, Some, None, unwrap_or, codes, refl, arith}
 use Rattle.std.proofs.lemmas.List.{length-map}
 use Rattle.std.specs.List.{All}
 use Rattle.std.specs.Option.{option_map_or}
@@ -7,7 +7,6 @@ use Rattle.std.proofs.lemmas.Bool.Decides.{nat_tests}
 use Rattle.std.proofs.lemmas.List.Elements.{All-nil, All-cons}
 use Rattle.serde_json.specs.Data.{Data, null}
 use Rattle.serde_json.specs.Find.{get}
-use Rattle.samoa_model.specs.declared.script.CodeDef.{CodeDef}
 use Rattle.samoa_grammar.specs.declared.fault.WalkFault.{WalkFault}
 use Rattle.samoa_grammar.specs.declared.fault.WalkFault.TheVariants.{Missing, WrongForm, Over}
 use Rattle.samoa_grammar.specs.declared.draft.Form.{Form}
@@ -16,8 +15,8 @@ use Rattle.samoa_grammar.specs.Tree.{part, is_list, list_of, is_number, number_o
 use Rattle.samoa_grammar.specs.Names.{is_name, is_handler_name}
 use Rattle.samoa_grammar.specs.Instrs.{is_instr}
 use Rattle.samoa_grammar.specs.Walks.{◌then◌, first_along}
-use Rattle.samoa_grammar.specs.Tests.{object_fault, required, optional, form_test, number_fault, is_number_from, number_from_fault, name_fault, is_list_of, within_fault, items_fault, list_fault}
-use Rattle.samoa_grammar.specs.Forms.{number_or, code_fault, code_of, kind_in, is_kind, has_handlers, micro_keys, handlers_fault, handlers_of, micro_fault, micro_of, bound_fault, bound_of, is_edge, form_in, is_form, decl_keys, body_fault, body_of, decl_fault, decl_of, event_fault, event_of, table_fault, table_of, change_fault, change_of, cause_count_fault, cause_fault, do_fault, do_of, loss_fault, loss_of, crash_fault, crash_of, script_keys, is_version, form_of_all, draft_of}
+use Rattle.samoa_grammar.specs.Tests.{object_fault, required, optional, form_test, number_fault, number_from_fault, name_fault, is_list_of, within_fault, items_fault, list_fault}
+use Rattle.samoa_grammar.specs.Forms.{code_fault, code_of, kind_in, is_kind, has_handlers, micro_keys, handlers_fault, handlers_of, micro_fault, micro_of, bound_fault, bound_of, is_edge, form_in, is_form, decl_keys, body_fault, body_of, decl_fault, decl_of, event_fault, event_of, table_fault, table_of, change_fault, change_of, cause_count_fault, cause_fault, do_fault, do_of, loss_fault, crash_fault, script_keys, is_version, form_of_all, draft_of}
 use Rattle.samoa_form.proofs.Along.{then_none}
 use Rattle.samoa_form.specs.Limits.{IsShortCode, HasMicroLimits, HasCalls, HasBodyLimits, HasDeclLimits, HasEventLimits, HasTableLimits, HasChangeLimits, HasTick, HasLimits}
 

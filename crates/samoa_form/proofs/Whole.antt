@@ -1,5 +1,5 @@
 -- What a reader of the whole tree returned, fault by fault.
-use Rattle.std.proofs.Common.{◌≡◌, Result, Ok, Err, Option, Some, sym, ap, ◌∙◌}
+use Rattle.std.proofs.Common.{◌≡◌, Result, Ok, Err, Option, Some}
 use Rattle.samoa_grammar.specs.declared.fault.WalkFault.{WalkFault}
 use Rattle.samoa_form.specs.declared.stop.Stop.{Stop}
 use Rattle.samoa_form.specs.declared.stop.Stop.TheVariants as stops

@@ -1,5 +1,5 @@
 -- What the first pass tells of a script's draft: each number and each list within its limit.
-use Rattle.std.specs.Prelude.{◌≤◌, ℕ, List, length}
+use Rattle.std.specs.Prelude.{◌≤◌, length}
 use Rattle.std.specs.List.{All}
 use Rattle.samoa_model.specs.declared.script.CodeDef.{CodeDef}
 use Rattle.samoa_grammar.specs.declared.draft.MicroDraft.{MicroDraft}

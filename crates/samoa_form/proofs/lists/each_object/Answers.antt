@@ -1,4 +1,4 @@
-use Rattle.std.proofs.Common.{arith, rules}
+use Rattle.std.proofs.Common.{arith}
 use Rattle.std.proofs.lemmas.Grind.{common_steps}
 use Rattle.samoa_form.proofs.Along.{passed_at}
 use Rattle.samoa_form.proofs.lists.each_object.Goals as goal
