@@ -1,11 +1,10 @@
 -- The names of a microprotocol's handlers, by their numbers.
-use Rattle.std.proofs.Common.{◌≡◌, ℕ, ◌-◌, ◌<◌, ◌≤◌, List, [], length, get_or, map, Bor, sym, ap, ◌∙◌, arith}
+use Rattle.std.proofs.Common.{◌≡◌, ℕ, ◌-◌, ◌<◌, ◌≤◌, List, [], length, get_or, map, Bor, sym, ap, ◌∙◌}
 use Rattle.std.proofs.lemmas.List.{get_or_append_left, get_or-append_right, get_or-map, length-map, get_or_past}
 use Rattle.samoa_model.specs.declared.script.CodeDef.{CodeDef}
 use Rattle.samoa_model.specs.declared.script.MicroDef.{MicroDef}
 use Rattle.samoa_grammar.specs.Meaning.{handlers_of_kind}
 use Rattle.samoa_print.specs.Texts.{names_of_handlers}
-
 
 -- a number below the number of the script's handlers names one of those
 pub own_name : (m : MicroDef) (i : ℕ) (h : CodeDef) → i < length m.handlers → h ≡ get_or m.handlers i h → get_or (names_of_handlers m) i [] ≡ h.name

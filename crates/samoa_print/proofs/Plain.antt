@@ -1,13 +1,11 @@
 -- The canonical tree has no float, and isn't deep.
-use Rattle.std.proofs.Common.{◌≡◌, ℕ, suc, ◌≤◌, Bool, false, List, [], ◌∷◌, map, refl, ap₂, arith}
-use Rattle.std.specs.Prelude.{◌||◌, get_or}
-use Rattle.serde_json.specs.Data.{Data, number, unsigned, string, array, object, Members, member, no_members, Items, depth, items_depth, members_depth}
+use Rattle.std.proofs.Common.{◌≡◌, ℕ, suc, ◌≤◌, Bool, true, false, List, [], ◌∷◌, map, refl, ap₂, arith}
+use Rattle.std.specs.Prelude.{◌||◌}
+use Rattle.serde_json.specs.Data.{Data, string, array, object, Members, member, no_members, Items, depth, items_depth, members_depth}
 use Rattle.serde_json.specs.View.{items_of}
 use Rattle.serde_json.specs.Written.{has_float, items_have_float, members_have_float}
 use Rattle.serde_json.specs.Read.{max_depth}
 use Rattle.samoa_model.specs.declared.ids.HandlerId.{HandlerId}
-use Rattle.samoa_model.specs.declared.setup.Kind.{Kind}
-use Rattle.samoa_model.specs.declared.setup.Kind.TheVariants.{Prog, Link, Fd, Rbcast, Cons, Abcast, Seqcast, Repl, Views}
 use Rattle.samoa_model.specs.declared.setup.Instr.{Instr}
 use Rattle.samoa_model.specs.declared.setup.Instr.TheVariants as instr
 use Rattle.samoa_model.specs.declared.record.Cause.{Cause}
@@ -23,7 +21,8 @@ use Rattle.samoa_model.specs.declared.script.DoDef.{DoDef}
 use Rattle.samoa_model.specs.declared.script.LossDef.{LossDef}
 use Rattle.samoa_model.specs.declared.script.CrashDef.{CrashDef}
 use Rattle.samoa_model.specs.declared.script.Script.{Script}
-use Rattle.samoa_print.specs.Canonical.{number_tree, list_tree, event_name_tree, change_name_tree, handler_name_tree, micro_name_tree, instr_tree, instr_items, code_tree, with_handlers, micro_tree, bound_tree, vertex_tree, edge_tree, decl_members, decl_tree, event_tree, table_tree, change_tree, cause_members, do_tree, loss_tree, crash_tree, tree_of}
+use Rattle.samoa_grammar.specs.Forms.{is_prog}
+use Rattle.samoa_print.specs.Canonical.{number_tree, list_tree, event_name_tree, change_name_tree, handler_name_tree, micro_name_tree, instr_tree, code_tree, with_handlers, kind_members, micro_tree, bound_tree, vertex_tree, edge_tree, decl_members, decl_tree, event_tree, table_tree, change_tree, cause_members, do_tree, loss_tree, crash_tree, tree_of}
 
 -- a tree with no float that nests at most so deep
 pub record IsPlain (n : ℕ) (d : Data) : Type 0 where
@@ -92,27 +91,23 @@ code_plain c =
     (member_plain 2 _ _ _ (list_plain 1 instr_tree c.code instr_plain)
     (member_plain 2 _ _ _ (string_plain 2 c.name) (none_plain 2)))
 
-handlers_plain : (kind : Kind) (handlers : List CodeDef) (rest : Members) → HasPlain 4 rest → HasPlain 4 (with_handlers kind handlers rest)
-handlers_plain Prog handlers rest p = member_plain 4 _ _ _ (list_plain 3 code_tree handlers code_plain) p
-handlers_plain Link handlers rest p = p
-handlers_plain Fd handlers rest p = p
-handlers_plain Rbcast handlers rest p = p
-handlers_plain Cons handlers rest p = p
-handlers_plain Abcast handlers rest p = p
-handlers_plain Seqcast handlers rest p = p
-handlers_plain Repl handlers rest p = p
-handlers_plain Views handlers rest p = p
+handlers_plain : (handlers : Bool) (codes : List CodeDef) (rest : Members) → HasPlain 4 rest → HasPlain 4 (with_handlers handlers codes rest)
+handlers_plain true codes rest p = member_plain 4 _ _ _ (list_plain 3 code_tree codes code_plain) p
+handlers_plain false codes rest p = p
+
+kind_plain : (script : Script) (m : MicroDef) → HasPlain 4 (kind_members script m)
+kind_plain script m =
+    member_plain 4 _ _ _ (string_plain 4 _)
+    (member_plain 4 _ _ _ (string_plain 4 _)
+    (member_plain 4 _ _ _ (numbers_plain 3 m.nums)
+    (member_plain 4 _ _ _ (list_plain 3 (event_name_tree script) m.ports (λ x. string_plain 3 _)) (none_plain 4))))
 
 micro_plain : (script : Script) (m : MicroDef) → IsPlain 5 (micro_tree script m)
 unfolding micro_tree
 micro_plain script m =
     object_plain 4 _
     (member_plain 4 _ _ _ (list_plain 3 (change_name_tree script) m.changes (λ x. string_plain 3 _))
-    (handlers_plain m.kind m.handlers _
-    (member_plain 4 _ _ _ (string_plain 4 _)
-    (member_plain 4 _ _ _ (string_plain 4 _)
-    (member_plain 4 _ _ _ (numbers_plain 3 m.nums)
-    (member_plain 4 _ _ _ (list_plain 3 (event_name_tree script) m.ports (λ x. string_plain 3 _)) (none_plain 4)))))))
+    (handlers_plain (is_prog m.kind) m.handlers _ (kind_plain script m)))
 
 bound_plain : (script : Script) (b : ℕ × ℕ) → IsPlain 3 (bound_tree script b)
 unfolding bound_tree

@@ -1,14 +1,12 @@
 -- The canonical tree of a script: every optional key stands with its value, keys stand in byte order, and lists in
 -- script order. A key that belongs to another kind or form doesn't stand.
-use Rattle.std.specs.Prelude.{ℕ, List, [], ◌∷◌, map, codes, get_or}
+use Rattle.std.specs.Prelude.{ℕ, Bool, true, false, List, [], ◌∷◌, map, codes, get_or}
 use Rattle.serde_json.specs.Data.{Data, number, unsigned, string, array, object, Members, member, no_members}
 use Rattle.serde_json.specs.View.{items_of}
 use Rattle.samoa_model.specs.Allowed.{no_handler}
 use Rattle.samoa_model.specs.declared.ids.EventId.{EventId}
 use Rattle.samoa_model.specs.declared.ids.ChangeId.{ChangeId}
 use Rattle.samoa_model.specs.declared.ids.HandlerId.{HandlerId}
-use Rattle.samoa_model.specs.declared.setup.Kind.{Kind}
-use Rattle.samoa_model.specs.declared.setup.Kind.TheVariants.{Prog, Link, Fd, Rbcast, Cons, Abcast, Seqcast, Repl, Views}
 use Rattle.samoa_model.specs.declared.setup.Place.{Place}
 use Rattle.samoa_model.specs.declared.setup.Instr.{Instr}
 use Rattle.samoa_model.specs.declared.setup.Instr.TheVariants as instr
@@ -25,6 +23,7 @@ use Rattle.samoa_model.specs.declared.script.DoDef.{DoDef}
 use Rattle.samoa_model.specs.declared.script.LossDef.{LossDef}
 use Rattle.samoa_model.specs.declared.script.CrashDef.{CrashDef}
 use Rattle.samoa_model.specs.declared.script.Script.{Script}
+use Rattle.samoa_grammar.specs.Forms.{is_prog}
 use Rattle.samoa_print.specs.Texts.{micro_text, decl_text, event_text, change_text, handler_text, kind_text, place_text}
 
 abbrev pub number_tree : ℕ → Data
@@ -73,19 +72,25 @@ code_tree c = object (
     member (codes "code") (list_tree instr_tree c.code)
     (member (codes "name") (string c.name) no_members))
 
--- the scripted kind alone has handlers in its table
-abbrev pub with_handlers : Kind → List CodeDef → Members → Members
-with_handlers Prog handlers rest = member (codes "handlers") (list_tree code_tree handlers) rest
-with_handlers _ handlers rest = rest
+abbrev pub with_handlers : Bool → List CodeDef → Members → Members
+with_handlers true handlers rest = member (codes "handlers") (list_tree code_tree handlers) rest
+with_handlers false handlers rest = rest
 
-unfoldable pub micro_tree : Script → MicroDef → Data
-micro_tree script m = object (
-    member (codes "changes") (list_tree (change_name_tree script) m.changes)
-    (with_handlers m.kind m.handlers
-    (member (codes "kind") (string (kind_text m.kind))
+-- the keys of every kind, after its changes and its handlers
+abbrev pub kind_members : Script → MicroDef → Members
+kind_members script m =
+    member (codes "kind") (string (kind_text m.kind))
     (member (codes "name") (string m.name)
     (member (codes "nums") (list_tree number_tree m.nums)
-    (member (codes "ports") (list_tree (event_name_tree script) m.ports) no_members))))))
+    (member (codes "ports") (list_tree (event_name_tree script) m.ports) no_members)))
+
+abbrev pub micro_members : Bool → Script → MicroDef → Members
+micro_members handlers script m =
+    member (codes "changes") (list_tree (change_name_tree script) m.changes) (with_handlers handlers m.handlers (kind_members script m))
+
+-- the scripted kind alone has handlers in its table
+unfoldable pub micro_tree : Script → MicroDef → Data
+micro_tree script m = object (micro_members (is_prog m.kind) script m)
 
 -- ---- declarations
 
@@ -147,12 +152,15 @@ abbrev pub cause_members : Script → Cause → Members → Members
 cause_members script (Event event) rest = member (codes "event") (event_name_tree script event) rest
 cause_members script (Change change) rest = member (codes "change") (change_name_tree script change) rest
 
-unfoldable pub do_tree : Script → DoDef → Data
-do_tree script item = object (
+abbrev pub do_members : Script → DoDef → Cause → Members
+do_members script item cause =
     member (codes "args") (list_tree number_tree item.args)
-    (cause_members script item.cause
+    (cause_members script cause
     (member (codes "node") (number_tree item.node.0)
-    (member (codes "tick") (number_tree item.tick) no_members))))
+    (member (codes "tick") (number_tree item.tick) no_members)))
+
+unfoldable pub do_tree : Script → DoDef → Data
+do_tree script item = object (do_members script item item.cause)
 
 unfoldable pub loss_tree : LossDef → Data
 loss_tree l = object (
@@ -168,15 +176,23 @@ crash_tree c = object (
 
 -- ---- the whole
 
-unfoldable pub tree_of : Script → Data
-tree_of script = object (
-    member (codes "changes") (list_tree (change_tree script) script.changes)
-    (member (codes "crash") (list_tree crash_tree script.crashes)
-    (member (codes "decls") (list_tree (decl_tree script) script.decls)
-    (member (codes "do") (list_tree (do_tree script) script.does)
-    (member (codes "events") (list_tree (event_tree script) script.events)
-    (member (codes "lose") (list_tree loss_tree script.losses)
+-- the keys from `lose` on
+abbrev pub stack_members : Script → Members
+stack_members script =
+    member (codes "lose") (list_tree loss_tree script.losses)
     (member (codes "micros") (list_tree (micro_tree script) script.micros)
     (member (codes "nodes") (number_tree script.nodes)
     (member (codes "ticks") (number_tree script.ticks)
-    (member (codes "version") (number_tree 1) no_members))))))))))
+    (member (codes "version") (number_tree 1) no_members))))
+
+-- the keys from `decls` on
+abbrev pub binding_members : Script → Members
+binding_members script =
+    member (codes "decls") (list_tree (decl_tree script) script.decls)
+    (member (codes "do") (list_tree (do_tree script) script.does)
+    (member (codes "events") (list_tree (event_tree script) script.events) (stack_members script)))
+
+unfoldable pub tree_of : Script → Data
+tree_of script = object (
+    member (codes "changes") (list_tree (change_tree script) script.changes)
+    (member (codes "crash") (list_tree crash_tree script.crashes) (binding_members script)))

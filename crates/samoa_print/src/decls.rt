@@ -8,6 +8,7 @@ ghost use Rattle.samoa_print.specs.Canonical.{list_tree, micro_name_tree, bound_
 
 use crate::listing::Printed;
 use crate::names::{handler_name, micro_name};
+use crate::object::Object;
 use samoa_model::{Decl, DeclDef, HandlerId, MicroId, NoMemory, Script};
 use serde_json::{Value, json};
 use std::alloc::Global;
@@ -36,11 +37,7 @@ fn bounds_value(alloc: Global, script: &Script, bounds: &[(u32, u32)]) -> Result
     Ok(Value::Array(each_bound(alloc, script, bounds)?))
 }
 
-fn each_bound(
-    alloc: Global,
-    script: &Script,
-    bounds: &[(u32, u32)],
-) -> Result<Vec<Value>, NoMemory>
+fn each_bound(alloc: Global, script: &Script, bounds: &[(u32, u32)]) -> Result<Vec<Value>, NoMemory>
     ensures { IfOk result (λ v. map view v.items ≡ map (bound_tree script.now) bounds.now) }
 {
     let mut values = Vec::new(alloc);
@@ -191,8 +188,13 @@ fn route_value(
 {
     let roots = roots_value(alloc, script, vertices, roots)?;
     let edges = edges_value(alloc, script, vertices, edges)?;
-    let name = decl.name.as_str();
-    Ok(json!(in alloc; {"name": name, "form": "route", "budget": decl.budget, "roots": roots, "edges": edges})?)
+    let object = Object::new(alloc);
+    let object = object.with(alloc, "roots", roots)?;
+    let object = object.with_text(alloc, "name", decl.name.as_str())?;
+    let object = object.with_text(alloc, "form", "route")?;
+    let object = object.with(alloc, "edges", edges)?;
+    let object = object.with_number(alloc, "budget", u64::from(decl.budget))?;
+    Ok(object.done())
 }
 
 impl Printed for DeclDef {

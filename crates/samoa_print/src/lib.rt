@@ -6,6 +6,7 @@ ghost use Rattle.serde_json.specs.Written.{compact_text};
 ghost use Rattle.samoa_grammar.specs.Tree.{IsJson};
 ghost use Rattle.samoa_print.specs.Canonical.{tree_of};
 
+mod cells;
 mod code;
 mod decls;
 mod events;
@@ -13,11 +14,10 @@ mod inputs;
 mod listing;
 mod micros;
 mod names;
-mod need;
+mod object;
 mod whole;
 
-pub use need::need;
-
+pub use cells::need;
 use samoa_model::{NoMemory, Script};
 use std::alloc::Global;
 use whole::{script_value, tree_text};

@@ -21,21 +21,13 @@ pub trait Printed {
 }
 
 /// A list of parts, in their order.
-pub fn list<T: Printed>(
-    alloc: Global,
-    script: &Script,
-    items: &[T],
-) -> Result<Value, NoMemory>
+pub fn list<T: Printed>(alloc: Global, script: &Script, items: &[T]) -> Result<Value, NoMemory>
     ensures { IfOk result (λ v. view v ≡ list_tree (T.Printed.tree script.now) items.now) }
 {
     Ok(Value::Array(each(alloc, script, items)?))
 }
 
-fn each<T: Printed>(
-    alloc: Global,
-    script: &Script,
-    items: &[T],
-) -> Result<Vec<Value>, NoMemory>
+fn each<T: Printed>(alloc: Global, script: &Script, items: &[T]) -> Result<Vec<Value>, NoMemory>
     ensures { IfOk result (λ v. map view v.items ≡ map (T.Printed.tree script.now) items.now) }
 {
     let mut values = Vec::new(alloc);

@@ -98,11 +98,7 @@ fn pick(names: &[&'static str], index: usize) -> &'static str
 
 /// The name of a handler, after that of its microprotocol and a dot.
 #[tactic(auto, unfolding(crate::specs::Texts::handler_text))]
-pub fn handler_name(
-    alloc: Global,
-    script: &Script,
-    handler: HandlerId,
-) -> Result<String, NoMemory>
+pub fn handler_name(alloc: Global, script: &Script, handler: HandlerId) -> Result<String, NoMemory>
     ensures { IfOk result (λ s. string_bytes s ≡ handler_text script.now handler) }
 {
     let mut text = String::new(alloc);

@@ -1,7 +1,7 @@
 use Rattle.std.proofs.Common.{◌≡◌, ◌≤◌, drop}
 use Rattle.std.specs.Prelude.{max}
 use Rattle.samoa_model.specs.Cells.{greatest_budget}
-use Rattle.samoa_print.proofs.need.greatest_budget.Given as goal
+use Rattle.samoa_print.proofs.cells.greatest_budget.Given as goal
 
 abbrev pub invariant-loop-decl : goal.invariant-loop-decl
 invariant-loop-decl l = record {
