@@ -2,5 +2,7 @@
 #![tactic(auto)]
 
 mod names;
+#[cfg(test)]
+mod tests;
 
 pub use names::EventNames;
