@@ -1,1 +1,4 @@
-pub mod Text
+pub mod Canonical
+pub mod Objects
+pub mod Texts
+pub mod Valid
