@@ -4,7 +4,8 @@ use Rattle.samoa_model.specs.declared.script.Script.{Script}
 use Rattle.samoa_serial.specs.Report.{report}
 use Rattle.samoa_script.specs.declared.fault.ScriptFault.{ScriptFault}
 use Rattle.samoa_script.specs.declared.fault.ScriptFault.TheVariants.{TooLong, NotJson, Missing, WrongForm, Unknown, Twice, Over, Memory}
-use Rattle.samoa_print.specs.Text.{canonical_text}
+use Rattle.serde_json.specs.Written.{compact_text}
+use Rattle.samoa_print.specs.Canonical.{tree_of}
 use Rattle.samoa_run.specs.declared.words.Order.{Order}
 use Rattle.samoa_run.specs.declared.words.Order.TheVariants.{Run, Serial, Check}
 use Rattle.samoa_run.specs.Built.{is_built}
@@ -19,7 +20,7 @@ can_do Check script = true
 abbrev pub output : Order → Script → List ℕ
 output (Run calls) script = report script calls
 output (Serial calls) script = report script calls
-output Check script = canonical_text script ++ codes "\n"
+output Check script = compact_text (tree_of script) ++ codes "\n"
 
 abbrev pub not_yet_line : List ℕ
 not_yet_line = codes "! script NotYet\n"
