@@ -1,0 +1,32 @@
+-- The first fault along a list, item by item.
+use Rattle.std.proofs.Common.{◌≡◌, ℕ, zero, suc, ◌+◌, ◌<◌, List, [], ◌∷◌, length, get_or, take, Option, Some, None, refl, sym, ap, ◌∙◌, arith, add-one}
+use Rattle.samoa_grammar.specs.declared.fault.WalkFault.{WalkFault}
+use Rattle.samoa_grammar.specs.Walks.{◌then◌, first_along}
+
+pub then_none : (a b : Option WalkFault) → (a then b) ≡ None → (a ≡ None) × (b ≡ None)
+then_none None b h = (refl, h)
+then_none (Some f) b h = cc
+
+-- an item that fails after items that pass
+pub refused_item : {X : Type 0} (fault : X → Option WalkFault) (xs : List X) (i : ℕ) (x : X) (e : WalkFault) → i < length xs → x ≡ get_or xs i x
+    → first_along fault (take i xs) ≡ None → fault x ≡ Some e → first_along fault xs ≡ Some e
+refused_item fault [] i x e below here before fails = absurd (omega arith)
+refused_item fault (y ∷ ys) zero x e below here before fails = ap (λ o. o then first_along fault ys) (ap fault (sym here) ∙ fails)
+refused_item fault (y ∷ ys) (suc i) x e below here before fails =
+    let h = then_none (fault y) (first_along fault (take i ys)) before in
+    ap (λ o. o then first_along fault ys) h.0 ∙ refused_item fault ys i x e (omega arith) here h.1 fails
+
+passed_item_suc : {X : Type 0} (fault : X → Option WalkFault) (xs : List X) (i : ℕ) (x : X) → i < length xs → x ≡ get_or xs i x
+    → first_along fault (take i xs) ≡ None → fault x ≡ None → first_along fault (take (suc i) xs) ≡ None
+passed_item_suc fault [] i x below here before passes = absurd (omega arith)
+passed_item_suc fault (y ∷ ys) zero x below here before passes = ap (λ o. o then None) (ap fault (sym here) ∙ passes)
+passed_item_suc fault (y ∷ ys) (suc i) x below here before passes =
+    let h = then_none (fault y) (first_along fault (take i ys)) before in
+    ap (λ o. o then first_along fault (take (suc i) ys)) h.0 ∙ passed_item_suc fault ys i x (omega arith) here h.1 passes
+
+-- one more item that passes
+pub passed_item : {X : Type 0} (fault : X → Option WalkFault) (xs : List X) (i : ℕ) (x : X) → i < length xs → x ≡ get_or xs i x
+    → first_along fault (take i xs) ≡ None → fault x ≡ None → first_along fault (take (i + 1) xs) ≡ None
+passed_item fault xs i x below here before passes = rw add-one (passed_item_suc fault xs i x below here before passes)
+
+pub ruleset along_items = (refused_item, passed_item)
