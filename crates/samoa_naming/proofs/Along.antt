@@ -1,6 +1,10 @@
 -- The first fault along a list, item by item.
-use Rattle.std.proofs.Common.{◌≡◌, ℕ, zero, suc, ◌+◌, ◌<◌, List, [], ◌∷◌, length, get_or, take, Option, Some, None, refl, sym, ap, ◌∙◌, arith, add-one}
+use Rattle.std.proofs.Common.{◌≡◌, ℕ, zero, suc, ◌+◌, ◌<◌, List, [], ◌∷◌, length, get_or, take, Option, Some, None, refl, sym, ap, ◌∙◌, arith, add-one, subst}
+use Rattle.std.proofs.lemmas.List.{get_or_default}
 use Rattle.samoa_grammar.specs.declared.fault.WalkFault.{WalkFault}
+use Rattle.samoa_form.specs.declared.stop.Stop.{Stop}
+use Rattle.samoa_form.specs.declared.stop.Stop.TheVariants as stops
+use Rattle.samoa_naming.specs.Finds.{Stops}
 use Rattle.samoa_grammar.specs.Walks.{◌then◌, first_along}
 
 pub then_none : (a b : Option WalkFault) → (a then b) ≡ None → (a ≡ None) × (b ≡ None)
@@ -28,5 +32,20 @@ passed_item_suc fault (y ∷ ys) (suc i) x below here before passes =
 pub passed_item : {X : Type 0} (fault : X → Option WalkFault) (xs : List X) (i : ℕ) (x : X) → i < length xs → x ≡ get_or xs i x
     → first_along fault (take i xs) ≡ None → fault x ≡ None → first_along fault (take (i + 1) xs) ≡ None
 passed_item fault xs i x below here before passes = rw add-one (passed_item_suc fault xs i x below here before passes)
+
+-- the same of items that are copied out of the list, which is read through another name
+
+pub passed_at : {X : Type 0} (fault : X → Option WalkFault) (items xs : List X) (i : ℕ) (d : X) → items ≡ xs → i < length items
+    → first_along fault (take i xs) ≡ None → fault (get_or items i d) ≡ None → first_along fault (take (i + 1) xs) ≡ None
+passed_at fault items xs i d same below before passes =
+    subst (λ l. first_along fault (take (i + 1) l) ≡ None) same
+    (passed_item fault items i (get_or items i d) below (get_or_default items i d (get_or items i d) below) (ap (λ l. first_along fault (take i l)) same ∙ before) passes)
+
+pub stopped_at : {X : Type 0} (fault : X → Option WalkFault) (items xs : List X) (i : ℕ) (d : X) (e : Stop) → items ≡ xs → i < length items
+    → first_along fault (take i xs) ≡ None → Stops e (fault (get_or items i d)) → Stops e (first_along fault xs)
+stopped_at fault items xs i d (stops.Fault f) same below before fails =
+    ap (first_along fault) (sym same)
+    ∙ refused_item fault items i (get_or items i d) f below (get_or_default items i d (get_or items i d) below) (ap (λ l. first_along fault (take i l)) same ∙ before) fails
+stopped_at fault items xs i d stops.Memory same below before fails = tt {0}
 
 pub ruleset along_items = (refused_item, passed_item)

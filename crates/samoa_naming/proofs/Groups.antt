@@ -9,7 +9,7 @@ use Rattle.samoa_grammar.specs.Names.{micro_part, handler_part}
 use Rattle.samoa_grammar.specs.Meaning.{no_micro_draft, handler_in, handler_names}
 use Rattle.samoa_grammar.specs.Walks.{◌then◌}
 use Rattle.samoa_grammar.specs.Passes.{twice_fault, unknown_fault, totals_fault}
-use Rattle.samoa_naming.specs.Groups.{handler_place, micros_twice, handlers_twice, decls_twice, events_twice, changes_twice, bodies_twice, bound_twice, rebound_twice, tables_twice, micros_unknown, bodies_unknown, events_unknown, changes_unknown, causes_unknown, ports_missing, codes_outside, vertices_over, does_outside, losses_outside, crashes_outside, ticks_over, kinds_over, kind_over}
+use Rattle.samoa_naming.specs.Groups.{handler_place, handler_outside, micro_outside, micros_twice, handlers_twice, decls_twice, events_twice, changes_twice, bodies_twice, bound_twice, rebound_twice, tables_twice, micros_unknown, bodies_unknown, events_unknown, changes_unknown, causes_unknown, ports_missing, codes_outside, vertices_over, does_outside, losses_outside, crashes_outside, ticks_over, kinds_over, kind_over}
 
 pub twice_by_groups : (x : Draft) → twice_fault x ≡ (micros_twice x then handlers_twice x then decls_twice x then events_twice x then changes_twice x then bodies_twice x then bound_twice x then rebound_twice x then tables_twice x)
 unfolding twice_fault micros_twice handlers_twice decls_twice events_twice changes_twice bodies_twice bound_twice rebound_twice tables_twice
@@ -20,7 +20,7 @@ unfolding unknown_fault micros_unknown bodies_unknown events_unknown changes_unk
 unknown_by_groups x = refl
 
 pub totals_by_groups : (x : Draft) → totals_fault x ≡ (ports_missing x then codes_outside x then vertices_over x then does_outside x then losses_outside x then crashes_outside x then ticks_over x then kinds_over x)
-unfolding totals_fault ports_missing codes_outside vertices_over does_outside losses_outside crashes_outside ticks_over kinds_over
+unfolding totals_fault handler_outside micro_outside ports_missing codes_outside vertices_over does_outside losses_outside crashes_outside ticks_over kinds_over
 totals_by_groups x = refl
 
 pub kinds_by_kind : (x : Draft) → kinds_over x ≡ (kind_over x (codes "prog") Prog then kind_over x (codes "link") Link then kind_over x (codes "fd") Fd then kind_over x (codes "rbcast") Rbcast then kind_over x (codes "cons") Cons then kind_over x (codes "abcast") Abcast then kind_over x (codes "seqcast") Seqcast then kind_over x (codes "repl") Repl then kind_over x (codes "views") Views)

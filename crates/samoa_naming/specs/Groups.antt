@@ -15,7 +15,7 @@ use Rattle.samoa_grammar.specs.declared.draft.Draft.{Draft}
 use Rattle.samoa_grammar.specs.declared.draft.EdgeDraft.{EdgeDraft}
 use Rattle.samoa_grammar.specs.Meaning.{handler_names}
 use Rattle.samoa_grammar.specs.Walks.{◌then◌, first_along}
-use Rattle.samoa_grammar.specs.Passes.{twice, body_twice, handler_unknown, micro_unknown, body_unknown, event_unknown, change_unknown, cause_unknown, ports_fault, code_total, vertices_fault, node_fault, loss_total, tick_fault, kind_fault, kinds_fault}
+use Rattle.samoa_grammar.specs.Passes.{twice, body_twice, handler_unknown, micro_unknown, body_unknown, event_unknown, change_unknown, cause_unknown, ports_fault, instr_fault, vertices_fault, node_fault, loss_total, tick_fault, kind_fault, kinds_fault}
 
 -- ---- handlers
 
@@ -75,11 +75,19 @@ causes_unknown x = first_along (λ (item : DoDraft). cause_unknown x item.cause)
 
 -- ---- totals
 
+-- the instructions of a handler
+unfoldable pub handler_outside : MicroDraft → CodeDef → Option WalkFault
+handler_outside m h = first_along (instr_fault m) h.code
+
+-- the instructions of a microprotocol
+unfoldable pub micro_outside : MicroDraft → Option WalkFault
+micro_outside m = first_along (handler_outside m) m.handlers
+
 unfoldable pub ports_missing : Draft → Option WalkFault
 ports_missing x = first_along ports_fault x.micros
 
 unfoldable pub codes_outside : Draft → Option WalkFault
-codes_outside x = first_along code_total x.micros
+codes_outside x = first_along micro_outside x.micros
 
 unfoldable pub vertices_over : Draft → Option WalkFault
 vertices_over x = first_along (λ (d : DeclDraft). vertices_fault x.micros d.body) x.decls

@@ -5,4 +5,6 @@ mod doubles;
 mod faults;
 mod handlers;
 mod named;
+mod routes;
+mod totals;
 mod undefined;
