@@ -1,3 +1,4 @@
 pub mod Finds
 pub mod Groups
 pub mod Routes
+pub mod Sizes

@@ -1,10 +1,15 @@
 //! The passes over a script's names and totals, and the script that its names mean.
 #![tactic(auto)]
 
+mod checking;
 mod doubles;
 mod faults;
 mod handlers;
 mod named;
+mod resolving;
 mod routes;
 mod totals;
 mod undefined;
+
+pub use checking::check_names;
+pub use resolving::resolve;
