@@ -1,7 +1,9 @@
 pub mod Along
 pub mod Groups
+pub mod Numbers
 pub mod Once
 pub mod Passed
 pub mod Positions
+pub mod Range
 pub mod Sizes
 pub mod Twice

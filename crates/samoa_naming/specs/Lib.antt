@@ -2,3 +2,4 @@ pub mod Finds
 pub mod Groups
 pub mod Routes
 pub mod Sizes
+pub mod Sound
