@@ -6,4 +6,5 @@ pub mod Passed
 pub mod Positions
 pub mod Range
 pub mod Sizes
+pub mod Sound
 pub mod Twice

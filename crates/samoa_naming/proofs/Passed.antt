@@ -44,7 +44,7 @@ parts_8 a b c d e f g h all =
     let p6 = then_none g (h) p5.1 in
     (p0.0, p1.0, p2.0, p3.0, p4.0, p5.0, p6.0, p6.1)
 
-parts_9 : (a b c d e f g h i : Option WalkFault) → (a then b then c then d then e then f then g then h then i) ≡ None → (a ≡ None) × (b ≡ None) × (c ≡ None) × (d ≡ None) × (e ≡ None) × (f ≡ None) × (g ≡ None) × (h ≡ None) × (i ≡ None)
+pub parts_9 : (a b c d e f g h i : Option WalkFault) → (a then b then c then d then e then f then g then h then i) ≡ None → (a ≡ None) × (b ≡ None) × (c ≡ None) × (d ≡ None) × (e ≡ None) × (f ≡ None) × (g ≡ None) × (h ≡ None) × (i ≡ None)
 parts_9 a b c d e f g h i all =
     let p0 = then_none a (b then c then d then e then f then g then h then i) all in
     let p1 = then_none b (c then d then e then f then g then h then i) p0.1 in

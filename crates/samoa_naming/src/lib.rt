@@ -5,6 +5,7 @@ mod checking;
 mod doubles;
 mod faults;
 mod handlers;
+mod laws;
 mod named;
 mod resolving;
 mod routes;
@@ -12,4 +13,5 @@ mod totals;
 mod undefined;
 
 pub use checking::check_names;
+pub use laws::{held_range, held_totals};
 pub use resolving::resolve;
