@@ -4,7 +4,7 @@ use Rattle.std.proofs.lemmas.List.{get_or_default}
 use Rattle.samoa_grammar.specs.declared.fault.WalkFault.{WalkFault}
 use Rattle.samoa_form.specs.declared.stop.Stop.{Stop}
 use Rattle.samoa_form.specs.declared.stop.Stop.TheVariants as stops
-use Rattle.samoa_naming.specs.Finds.{Stops}
+use Rattle.samoa_form.specs.Reads.{Stops}
 use Rattle.samoa_grammar.specs.Walks.{◌then◌, first_along}
 
 pub then_none : (a b : Option WalkFault) → (a then b) ≡ None → (a ≡ None) × (b ≡ None)

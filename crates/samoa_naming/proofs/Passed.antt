@@ -1,16 +1,11 @@
 -- What a draft keeps to that passes.
-use Rattle.std.proofs.Common.{◌≡◌, ℕ, ◌<◌, ◌≤◌, List, [], ◌∷◌, map, codes, Option, Some, None, sym, ◌∙◌}
+use Rattle.std.proofs.Common.{◌≡◌, List, [], ◌∷◌, codes, Option, None, sym, ◌∙◌}
 use Rattle.std.specs.List.{All}
 use Rattle.std.proofs.lemmas.List.Elements.{All-nil, All-cons}
-use Rattle.samoa_model.specs.declared.script.CodeDef.{CodeDef}
 use Rattle.samoa_grammar.specs.declared.fault.WalkFault.{WalkFault}
-use Rattle.samoa_grammar.specs.declared.draft.MicroDraft.{MicroDraft}
 use Rattle.samoa_grammar.specs.declared.draft.DeclDraft.{DeclDraft}
 use Rattle.samoa_grammar.specs.declared.draft.DoDraft.{DoDraft}
-use Rattle.samoa_grammar.specs.declared.draft.LossDraft.{LossDraft}
 use Rattle.samoa_grammar.specs.declared.draft.CrashDraft.{CrashDraft}
-use Rattle.samoa_grammar.specs.declared.draft.EventDraft.{EventDraft}
-use Rattle.samoa_grammar.specs.declared.draft.ChangeDraft.{ChangeDraft}
 use Rattle.samoa_grammar.specs.declared.draft.Draft.{Draft}
 use Rattle.samoa_grammar.specs.Walks.{◌then◌, first_along}
 use Rattle.samoa_grammar.specs.Passes.{body_twice, micro_unknown, body_unknown, event_unknown, change_unknown, cause_unknown, ports_fault, vertices_fault, node_fault, loss_total, tick_fault, kinds_fault, twice_fault, unknown_fault, totals_fault}

@@ -1,10 +1,8 @@
 -- The script of a draft that passes is in range.
-use Rattle.std.proofs.Common.{◌≡◌, ℕ, ◌≤◌, ◌<◌, List, length, get_or, map, codes, Option, None, sym, subst, arith}
-use Rattle.std.specs.List.{All}
+use Rattle.std.proofs.Common.{◌≡◌, ℕ, ◌≤◌, ◌<◌, List, length, get_or, map, codes, None, sym, subst, arith}
 use Rattle.std.proofs.lemmas.List.{length-map}
 use Rattle.std.proofs.lemmas.List.Elements.{All-map}
 use Rattle.samoa_model.specs.declared.ids.HandlerId.{HandlerId}
-use Rattle.samoa_model.specs.declared.script.DeclDef.{DeclDef}
 use Rattle.samoa_model.specs.declared.script.TableDef.{TableDef}
 use Rattle.samoa_model.specs.declared.script.Script.{Script}
 use Rattle.samoa_model.specs.Range.{IsBindable, IsEventOf, IsChangeOf, IsCauseOf, IsMicroInRange, IsEventInRange, IsChangeInRange, IsDoInRange, HasBudget, IsInRange}
@@ -17,7 +15,7 @@ use Rattle.samoa_grammar.specs.declared.draft.CauseDraft.{CauseDraft}
 use Rattle.samoa_grammar.specs.declared.draft.CauseDraft.TheVariants.{Event, Change}
 use Rattle.samoa_grammar.specs.declared.draft.DoDraft.{DoDraft}
 use Rattle.samoa_grammar.specs.declared.draft.Draft.{Draft}
-use Rattle.samoa_grammar.specs.Walks.{◌then◌, first_along}
+use Rattle.samoa_grammar.specs.Walks.{first_along}
 use Rattle.samoa_grammar.specs.Meaning.{number_in_names, event_named, change_named, handler_of, micro_meant, decl_meant, event_meant, table_meant, change_meant, cause_meant, do_meant, script_of}
 use Rattle.samoa_grammar.specs.Passes.{among, decl_names, event_names, change_names, handler_unknown, micro_unknown, event_unknown, table_unknown, change_unknown, cause_unknown, node_fault, tick_fault, unknown_fault, totals_fault}
 use Rattle.samoa_form.specs.Limits.{HasMicroLimits, HasDeclLimits, HasEventLimits, HasTableLimits, HasChangeLimits, HasLimits}

@@ -1,11 +1,10 @@
 -- The numbers of a draft that passes fit into those of a script.
-use Rattle.std.proofs.Common.{◌≡◌, ℕ, ◌<◌, ◌≤◌, Bool, true, false, cond, List, length, get_or, codes, ltb, Option, Some, None, refl, arith}
+use Rattle.std.proofs.Common.{◌≡◌, ℕ, ◌<◌, ◌≤◌, Bool, true, false, cond, List, get_or, codes, ltb, Some, None, refl, arith}
 use Rattle.std.specs.List.{All}
 use Rattle.std.proofs.lemmas.Bool.{ltb-true, ltb-false}
 use Rattle.samoa_grammar.specs.declared.fault.WalkFault.{WalkFault}
 use Rattle.samoa_grammar.specs.declared.draft.DoDraft.{DoDraft}
 use Rattle.samoa_grammar.specs.declared.draft.LossDraft.{LossDraft}
-use Rattle.samoa_grammar.specs.declared.draft.CrashDraft.{CrashDraft}
 use Rattle.samoa_grammar.specs.declared.draft.Draft.{Draft}
 use Rattle.samoa_grammar.specs.Passes.{node_fault, loss_total, tick_fault, totals_fault}
 use Rattle.samoa_form.specs.Limits.{HasLimits}

@@ -1,5 +1,5 @@
 -- What the script of a draft that passes keeps to besides its ranges.
-use Rattle.std.proofs.Common.{◌≡◌, ℕ, ◌+◌, ◌*◌, ◌≤◌, ◌<◌, Bool, true, false, cond, List, [], ◌∷◌, length, get_or, map, codes, leb, ltb, Option, None, refl, sym, ap, ◌∙◌, subst, arith, leb-true}
+use Rattle.std.proofs.Common.{◌≡◌, ℕ, ◌+◌, ◌*◌, ◌≤◌, true, cond, List, [], ◌∷◌, length, get_or, map, codes, leb, ltb, None, refl, sym, ◌∙◌, subst, leb-true}
 use Rattle.std.specs.List.{All, count_by, sum_by, fold}
 use Rattle.std.proofs.lemmas.Bool.{ltb-false}
 use Rattle.std.proofs.lemmas.List.{length-map}
@@ -10,8 +10,6 @@ use Rattle.samoa_model.specs.declared.setup.Instr.{Instr}
 use Rattle.samoa_model.specs.contracts.setup.KindPartialEq.TheImpl.{ghosts}
 use Rattle.samoa_model.specs.declared.script.CodeDef.{CodeDef}
 use Rattle.samoa_model.specs.declared.script.MicroDef.{MicroDef}
-use Rattle.samoa_model.specs.declared.script.LossDef.{LossDef}
-use Rattle.samoa_model.specs.declared.script.CrashDef.{CrashDef}
 use Rattle.samoa_grammar.specs.declared.draft.MicroDraft.{MicroDraft}
 use Rattle.samoa_grammar.specs.declared.draft.Draft.{Draft}
 use Rattle.samoa_grammar.specs.Meaning.{event_named, change_named, micro_meant, loss_meant, crash_meant, script_of}

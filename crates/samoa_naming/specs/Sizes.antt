@@ -1,5 +1,5 @@
 -- Numbers of a draft that fit into those of a script.
-use Rattle.std.specs.Prelude.{ℕ, ◌<◌, ◌^◌}
+use Rattle.std.specs.Prelude.{◌<◌, ◌^◌}
 use Rattle.samoa_grammar.specs.declared.draft.DoDraft.{DoDraft}
 use Rattle.samoa_grammar.specs.declared.draft.LossDraft.{LossDraft}
 use Rattle.samoa_grammar.specs.declared.draft.CrashDraft.{CrashDraft}

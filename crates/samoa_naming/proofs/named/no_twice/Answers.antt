@@ -2,7 +2,6 @@ use Rattle.std.proofs.Common.{◌≡◌, true, false, Some, take, bytes_eq, arit
 use Rattle.std.proofs.lemmas.Grind.{common_steps}
 use Rattle.std.specs.List.{list_any}
 use Rattle.samoa_grammar.specs.declared.fault.WalkFault.TheVariants.{Twice}
-use Rattle.samoa_naming.specs.Finds.{Stops}
 use Rattle.samoa_naming.proofs.Twice.{twice_here, twice_more}
 use Rattle.samoa_naming.proofs.named.no_twice.Goals as goal
 

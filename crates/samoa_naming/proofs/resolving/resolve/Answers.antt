@@ -1,4 +1,4 @@
-use Rattle.std.proofs.Common.{◌≡◌, sym, subst}
+use Rattle.std.proofs.Common.{sym, subst}
 use Rattle.std.specs.List.{All}
 use Rattle.samoa_naming.specs.Sizes.{FitsLoss, FitsCrash}
 use Rattle.samoa_naming.proofs.Passed.{vertices_few}

@@ -1,4 +1,4 @@
-use Rattle.std.proofs.Common.{◌≡◌, ◌∷◌, [], ◌++◌, arith, sym, ap₂, ◌∙◌}
+use Rattle.std.proofs.Common.{◌∷◌, [], ◌++◌, arith, sym, ap₂, ◌∙◌}
 use Rattle.std.proofs.lemmas.List.{map_more}
 use Rattle.samoa_grammar.specs.Meaning.{vertex_of}
 use Rattle.samoa_naming.proofs.resolving.root_numbers.Goals as goal

@@ -1,4 +1,4 @@
-use Rattle.std.proofs.Common.{◌≡◌, arith, sym, ap₂, ◌∙◌}
+use Rattle.std.proofs.Common.{arith, sym, ap₂, ◌∙◌}
 use Rattle.samoa_grammar.specs.Meaning.{edge_numbers}
 use Rattle.samoa_naming.specs.Routes.{with_edge}
 use Rattle.samoa_naming.proofs.Once.{edges_more}

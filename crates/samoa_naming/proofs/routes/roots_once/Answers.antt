@@ -1,4 +1,4 @@
-use Rattle.std.proofs.Common.{◌≡◌, arith, sym, ap, ap₂, ◌∙◌}
+use Rattle.std.proofs.Common.{arith, sym, ap₂, ◌∙◌}
 use Rattle.samoa_grammar.specs.Meaning.{handler_of}
 use Rattle.samoa_naming.specs.Routes.{with_handler}
 use Rattle.samoa_naming.proofs.Once.{once_more}

@@ -1,4 +1,4 @@
-use Rattle.std.proofs.Common.{◌≡◌, codes, arith}
+use Rattle.std.proofs.Common.{codes, arith}
 use Rattle.std.proofs.lemmas.Result.{err_from_is_err_and}
 use Rattle.samoa_grammar.specs.declared.draft.CrashDraft.{CrashDraft}
 use Rattle.samoa_grammar.specs.Passes.{node_fault}

@@ -1,4 +1,4 @@
-use Rattle.std.proofs.Common.{◌≡◌, arith}
+use Rattle.std.proofs.Common.{arith}
 use Rattle.std.proofs.lemmas.Result.{err_from_is_err_and}
 use Rattle.samoa_grammar.specs.Passes.{instr_fault}
 use Rattle.samoa_naming.specs.Groups.{handler_outside}
