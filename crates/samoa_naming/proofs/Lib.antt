@@ -1,4 +1,6 @@
 pub mod Along
+pub mod Apart
+pub mod Decls
 pub mod Groups
 pub mod Numbers
 pub mod Once
@@ -8,3 +10,4 @@ pub mod Range
 pub mod Sizes
 pub mod Sound
 pub mod Twice
+pub mod Vertices

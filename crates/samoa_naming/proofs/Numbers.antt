@@ -17,7 +17,7 @@ below_if : (b rest : Bool) (n len : ℕ) → (b || rest) ≡ true → (rest ≡ 
 below_if true rest n len some below = omega arith
 below_if false rest n len some below = let h : n < len = below some in omega arith
 
-found_below : {X : Type 0} (p : X → Bool) (xs : List X) → list_any p xs ≡ true → position_or_len p xs < length xs
+pub found_below : {X : Type 0} (p : X → Bool) (xs : List X) → list_any p xs ≡ true → position_or_len p xs < length xs
 found_below p [] some = absurd (cc)
 found_below p (x ∷ xs) some = below_if (p x) (list_any p xs) (position_or_len p xs) (length xs) some (found_below p xs)
 
