@@ -5,7 +5,7 @@ use Rattle.std.specs.Io.KnownBytes.{IsAtEnd}
 use Rattle.samoa_model.specs.declared.script.Script.{Script}
 use Rattle.samoa_ends.specs.Causes.{Rose}
 use Rattle.samoa_script.specs.declared.fault.ScriptFault.{ScriptFault}
-use Rattle.samoa_script.specs.Readings.{IsReading}
+use Rattle.samoa_run.specs.Readings.{IsReading}
 use Rattle.samoa_run.specs.declared.words.Order.{Order}
 use Rattle.samoa_run.specs.Due.{can_do, due_status, due_text, fault_line, not_yet_line, output}
 use Rattle.samoa_run.specs.Serving.{Answers, Ends, IsRefused, faulty, not_yet, NoFault, Obeys}

@@ -7,7 +7,8 @@ use Rattle.samoa_ends.specs.Pieces.{AppendsPrefix}
 use Rattle.samoa_grammar.specs.Held.{Holds, IsTooLong, IsNoJson, WalkFails}
 use Rattle.samoa_script.specs.declared.fault.ScriptFault.{ScriptFault}
 use Rattle.samoa_script.specs.declared.fault.ScriptFault.TheVariants.{TooLong, NotJson, Missing, WrongForm, Unknown, Twice, Over, Memory}
-use Rattle.samoa_script.specs.Readings.{IsReading}
+use Rattle.samoa_script.proofs.Held.{one_script, answers_apart}
+use Rattle.samoa_run.specs.Readings.{HasFault, IsReading}
 use Rattle.samoa_run.specs.declared.words.Order.{Order}
 use Rattle.samoa_run.specs.Due.{due_status, due_text, is_memory}
 use Rattle.samoa_run.specs.Serving.{Answers}
@@ -32,17 +33,23 @@ no_longer (Some x) (Some y) input bytes told taken =
 -- a reading of bytes that aren't too long
 short_or_long : (bytes : List ℕ) (found : Result Script ScriptFault) → IsReading bytes found → (length bytes ≤ 1048576) ⊎ ((1048576 < length bytes) × (found ≡ Err TooLong))
 short_or_long bytes (Ok script) held = inl held.short
-short_or_long bytes (Err TooLong) long = inr (long, refl)
-short_or_long bytes (Err NotJson) fails = inl fails.short
-short_or_long bytes (Err (Missing key)) fails = inl fails.short
-short_or_long bytes (Err (WrongForm key)) fails = inl fails.short
-short_or_long bytes (Err (Unknown name)) fails = inl fails.short
-short_or_long bytes (Err (Twice name)) fails = inl fails.short
-short_or_long bytes (Err (Over name limit)) fails = inl fails.short
-short_or_long bytes (Err Memory) fails = absurd fails
+short_or_long bytes (Err TooLong) fails = inr (fails.0, refl)
+short_or_long bytes (Err NotJson) fails = inl fails.0.short
+short_or_long bytes (Err (Missing key)) fails = inl fails.0.short
+short_or_long bytes (Err (WrongForm key)) fails = inl fails.0.short
+short_or_long bytes (Err (Unknown name)) fails = inl fails.0.short
+short_or_long bytes (Err (Twice name)) fails = inl fails.0.short
+short_or_long bytes (Err (Over name limit)) fails = inl fails.0.short
+short_or_long bytes (Err Memory) fails = absurd (fails.1 refl)
+
+one_fault : (bytes : List ℕ) (f g : ScriptFault) → HasFault bytes f → HasFault bytes g → f ≡ g
+one_fault bytes f g h k = search rules
 
 one_reading : (bytes : List ℕ) (r q : Result Script ScriptFault) → IsReading bytes r → IsReading bytes q → r ≡ q
-one_reading bytes r q h k = search rules
+one_reading bytes (Ok s) (Ok t) h k = ap Ok (one_script bytes s t h k)
+one_reading bytes (Ok s) (Err f) h k = absurd (k.1 (answers_apart bytes s f h k.0))
+one_reading bytes (Err f) (Ok s) h k = absurd (h.1 (answers_apart bytes s f k h.0))
+one_reading bytes (Err f) (Err g) h k = ap Err (one_fault bytes f g h k)
 
 both_long : (text input : List ℕ) (r found : Result Script ScriptFault) → length text ≤ length input
     → (length text ≤ 1048576) ⊎ ((1048576 < length text) × (r ≡ Err TooLong)) → (length input ≤ 1048576) ⊎ ((1048576 < length input) × (found ≡ Err TooLong))
@@ -82,7 +89,7 @@ reading_of_input a b input bytes text r told taken end same here = either (short
         let as_many : length text ≡ length bytes = ap (λ (l : List ℕ). length l) same in
         let R : Result Script ScriptFault → Type 0 = λ f. IsReading input f in
         let over : IsTooLong input = omega (arith, no_longer a b input bytes told taken, as_many, long.0) in
-        subst R (sym long.1) over
+        subst R (sym long.1) (over, λ e. absurd (cc))
 
 -- the due status, or a fault of the sink or want of memory
 pub later_status : (status due : ℕ) → (status ≡ due) ⊎ ((status ≡ 5) ⊎ (status ≡ 6)) → (status ≡ due) ⊎ ((status ≡ 4) ⊎ ((status ≡ 5) ⊎ (status ≡ 6)))

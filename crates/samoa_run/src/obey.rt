@@ -5,7 +5,7 @@ ghost use Rattle.samoa_model.specs.declared.script.Script.{Script as ScriptValue
 ghost use Rattle.samoa_model.specs.declared.setup.Kind.TheVariants.{Prog};
 ghost use Rattle.samoa_ends.specs.Causes.{Rose};
 ghost use Rattle.samoa_script.specs.declared.fault.ScriptFault.{ScriptFault as Fault};
-ghost use Rattle.samoa_script.specs.Readings.{IsReading};
+ghost use Rattle.samoa_run.specs.Readings.{IsReading};
 ghost use Rattle.samoa_micro.specs.Covers.{count_of};
 ghost use Rattle.samoa_run.specs.Due.{due_status, due_text, is_memory as memory_is};
 ghost use Rattle.samoa_run.specs.Serving.{Answers, Obeys};
