@@ -1,10 +1,10 @@
 //! The computation that is open.
-ghost use Rattle.std.specs.Prelude.{◌≡◌, ◌<◌, ◌+◌, ◌^◌, [], IfOk, List, ◌∷◌, true, length};
+ghost use Rattle.std.specs.Prelude.{◌≡◌, ◌<◌, ◌≤◌, ◌+◌, ◌^◌, [], IfOk, List, ◌∷◌, true, length};
 ghost use Rattle.samoa_model.specs.Range.{IsBuilt, IsExtOf, IsInRange};
 ghost use Rattle.samoa_model.specs.Scripts.{first_table};
 ghost use Rattle.samoa_serial.specs.declared.call.Active.{Active};
 ghost use Rattle.samoa_bind.specs.Bound.{first_tables};
-ghost use Rattle.samoa_calls.specs.Handed.{AreNamed, IsNamed};
+ghost use Rattle.samoa_calls.specs.Handed.{AreNamed, IsNamed, fresh};
 ghost use Rattle.samoa_core.specs.Opened.{opened, next_in, has_ended, is_over_now, gone_on};
 
 use crate::parts::{decl_in, decl_number, root_of};
@@ -25,12 +25,14 @@ pub(crate) struct Open {
 }
 
 impl Open {
-    /// Begins the computation of an admission. All room that it can need is made, or there was no memory.
+    /// Begins the computation of an admission, in the memory of the spare one if there is one. All room that it can need
+    /// is made, or there was no memory.
     pub(crate) fn start(
         alloc: Global,
         script: &Script,
         tables: &Tables,
         ext: &Ext,
+        spare: Option<Comp>,
     ) -> Result<Open, NoMemory>
         requires in_range { IsInRange script.now }
         requires built { IsBuilt script.now }
@@ -43,7 +45,7 @@ impl Open {
         let decl = decl_in(script, number);
         let epoch = tables.current(ext.node);
         let root = root_of(script, ext.cause);
-        let mut comp = Comp::new(alloc, number, decl.budget)?;
+        let mut comp = fresh_comp(alloc, spare, number, decl.budget)?;
         let handlers = tables.resolve(ext.node, epoch, root);
         comp.start(&decl.decl, handlers, root, ext.args);
         Ok(Open {
@@ -99,5 +101,22 @@ pub(crate) fn is_over(present: &Option<Open>) -> bool
     match present {
         Some(open) => open.has_ended(),
         None => false,
+    }
+}
+
+/// A computation that hasn't begun, in the memory of the spare one if there is one.
+fn fresh_comp(
+    alloc: Global,
+    spare: Option<Comp>,
+    decl: u32,
+    budget: u32,
+) -> Result<Comp, NoMemory>
+    requires some { 1 ≤ budget }
+    requires few { budget ≤ 256 }
+    ensures { IfOk result (λ comp. comp ≡ record { decl = decl; comp = fresh budget }) }
+{
+    match spare {
+        Some(comp) => comp.renewed(decl, budget),
+        None => Comp::new(alloc, decl, budget),
     }
 }

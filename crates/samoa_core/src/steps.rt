@@ -33,6 +33,7 @@ pub struct Core<B: Micro> {
     slots: Slots<B>,
     exts: Vec<Ext>,
     comps: Vec<Comp>,
+    spare: Option<Comp>,
     cleared: u32,
     cells: u32,
     held: u32,
@@ -74,6 +75,7 @@ impl<B: Micro> Core<B> {
             slots,
             exts: Vec::new(alloc),
             comps: Vec::new(alloc),
+            spare: None,
             cleared: 0,
             cells,
             held: 0,
@@ -117,6 +119,7 @@ impl<B: Micro> Core<B> {
             &ext,
             &mut self.exts,
             &mut self.comps,
+            self.spare.take(),
         ) {
             Ok(open) => {
                 self.held += cells_of(&self.script, &ext);
@@ -248,6 +251,7 @@ impl<B: Micro> Core<B> {
     {
         self.held = 0;
         self.cleared = self.exts.len() as u32;
+        self.spare = self.comps.pop();
         self.comps.clear();
     }
 
@@ -295,6 +299,7 @@ fn prepared(
     ext: &Ext,
     exts: &mut Vec<Ext>,
     comps: &mut Vec<Comp>,
+    spare: Option<Comp>,
 ) -> Result<Open, NoMemory>
     requires in_range { IsInRange script.now }
     requires built { IsBuilt script.now }
@@ -311,5 +316,5 @@ fn prepared(
 {
     exts.reserve(1)?;
     comps.reserve(1)?;
-    Open::start(alloc, script, tables, ext)
+    Open::start(alloc, script, tables, ext, spare)
 }
