@@ -1,0 +1,40 @@
+-- Each form of declaration meets what it owes: sets, bounds and routes.
+use Rattle.std.proofs.Common.{ℕ, sym, subst, List}
+use Rattle.samoa_serial.specs.declared.call.Active.{Active}
+use Rattle.samoa_model.specs.declared.script.Decl.{Decl}
+use Rattle.samoa_serial.specs.declared.call.Waiting.{Waiting}
+use Rattle.samoa_model.specs.Scripts.{Table}
+use Rattle.samoa_serial.specs.World.{attempts_of}
+use Rattle.samoa_serial.specs.Calls.{Computation}
+use Rattle.samoa_invariant.specs.Play.{Play, table_of, point, IsIdle, Never}
+use Rattle.samoa_invariant.specs.State.{Core, Step, Quiet, ActiveSafe, WaitingSafe, IsEnabled, made_by}
+use Rattle.samoa_invariant.specs.Inv.{Meets, Invariant}
+use Rattle.samoa_invariant.proofs.Accepts.{meets_declared, idle_never}
+use Rattle.samoa_invariant.proofs.Bounds.{meets_counting}
+use Rattle.samoa_invariant.proofs.Routes.{route_never}
+use Rattle.samoa_invariant.proofs.Steps.{step_keeps}
+
+quiet_never : (decl : Decl) (table : Table) (comp : Computation) (p : ℕ) → Quiet decl table comp p → Never (attempts_of decl table) comp p
+quiet_never (Decl.Set micros) table comp p quiet = idle_never (attempts_of (Decl.Set micros) table) comp p quiet
+quiet_never (Decl.Bound bounds) table comp p quiet = idle_never (attempts_of (Decl.Bound bounds) table) comp p quiet
+quiet_never (Decl.Route vertices roots edges) table comp p quiet = route_never vertices roots edges table comp p quiet
+
+idle_quiet : (decl : Decl) (table : Table) (comp : Computation) (p : ℕ) → IsIdle comp → Quiet decl table comp p
+idle_quiet (Decl.Set micros) table comp p idle = idle
+idle_quiet (Decl.Bound bounds) table comp p idle = idle
+idle_quiet (Decl.Route vertices roots edges) table comp p idle = record {
+  active = subst (λ (xs : List Active). ActiveSafe vertices edges p xs) (sym idle.active) tt;
+  waiting = subst (λ (xs : List Waiting). WaitingSafe vertices edges table p xs) (sym idle.waiting) tt;
+}
+
+pub meets : (P : Play) (k : ℕ) → Meets P k
+meets P k = record {
+  declared = λ n c m e. meets_declared P k n c m e;
+  sound = λ n p quiet. quiet_never (P.decl k) (table_of P k) (point P k n).comp p quiet;
+  rest = λ n p idle. idle_quiet (P.decl k) (table_of P k) (point P k n).comp p idle;
+  counting = λ n p b w le. meets_counting P k n p b le;
+}
+
+-- the main theorem, for all three forms
+pub enabled_keeps : (P : Play) (core : Core) (step : Step) → Invariant P core → IsEnabled P core step → Invariant P (made_by P core step)
+enabled_keeps P core step i can = step_keeps P (meets P) core step i can

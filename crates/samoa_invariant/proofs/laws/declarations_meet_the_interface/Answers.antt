@@ -1,0 +1,5 @@
+use Rattle.samoa_invariant.proofs.Forms.{meets}
+use Rattle.samoa_invariant.proofs.laws.declarations_meet_the_interface.Goals as goal
+
+pub returns : goal.returns
+returns c = record { meets = meets }

@@ -1,0 +1,57 @@
+//! The laws of a core whose journal is a run of a script over what was admitted. Computations are numbered from 1.
+ghost use Rattle.std.specs.Prelude.{◌≡◌, ℕ, ◌+◌, ◌-◌, ◌*◌, ◌<◌, ◌≤◌, ◌⊎◌, length, true, false};
+ghost use Rattle.samoa_model.specs.declared.record.Ext.{Ext};
+ghost use Rattle.samoa_model.specs.declared.record.Step.{Step};
+ghost use Rattle.samoa_model.specs.declared.script.Script.{Script};
+ghost use Rattle.samoa_serial.specs.SerialRun.{serial};
+ghost use Rattle.samoa_model.specs.Range.{IsInRange};
+ghost use Rattle.samoa_model.specs.Scripts.{decl_of};
+ghost use Rattle.samoa_invariant.specs.Play.{Play, turns};
+ghost use Rattle.samoa_invariant.specs.Inv.{Invariant};
+ghost use Rattle.samoa_invariant.specs.Parts.{SixParts};
+ghost use Rattle.samoa_invariant.specs.State.{AllEnded, Core, NothingOut, Reached, admit, left, named};
+ghost use Rattle.samoa_invariant.specs.Runs.{ArePoints, GoesOn, IsDue, IsRun, IsServed, Trace, after_step, cleared, ext_at, opening_trace, play, state, with_clear, with_ext, with_step};
+
+/// A run begins with nothing done, and grows by steps that are enabled and by clears where all have ended. What is
+/// admitted later changes nothing of it.
+pub fn runs_grow()
+    ensures opening { (script : Script) (cells : ℕ) → IsRun (opening_trace script cells) }
+    ensures step { (t : Trace) (step : Step) → IsRun t → IsDue t step → IsRun (with_step t step) }
+    ensures step_state { (t : Trace) (step : Step) → IsRun t → state (with_step t step) ≡ after_step (play t) (state t) step }
+    ensures clear { (t : Trace) → IsRun t → AllEnded (state t) → 0 < (state t).cells → IsRun (with_clear t) }
+    ensures clear_state { (t : Trace) → state (with_clear t) ≡ cleared (state t) }
+    ensures ext { (t : Trace) (ext : Ext) → IsRun t → IsRun (with_ext t ext) }
+    ensures ext_state { (t : Trace) (ext : Ext) → IsRun t → state (with_ext t ext) ≡ state t }
+{}
+
+/// Whatever the order of its steps, a run keeps the invariant.
+pub fn runs_keep_the_invariant()
+    ensures reached { (t : Trace) → IsRun t → Reached (play t) (state t) }
+    ensures kept { (t : Trace) → IsRun t → Invariant (play t) (state t) }
+    ensures parts { (t : Trace) → IsRun t → SixParts (play t) (state t) }
+    ensures admitted { (t : Trace) → IsRun t → (state t).count ≤ length t.exts }
+    ensures few { (t : Trace) → IsRun t → (state t).count ≤ 100000 }
+{}
+
+/// A computation that has ended has its entries and its ending of the serial run, whether or not others have ended. A
+/// box stands at the serial point of the computation that has its turn there, and where none has, after all.
+pub fn runs_are_serial()
+    ensures answers { (t : Trace) (comp : ℕ) → IsRun t → 0 < comp → comp ≤ (state t).count → (state t).ended (comp - 1) ≡ true → IsServed t comp }
+    ensures points { (t : Trace) → IsRun t → ArePoints t }
+    ensures states { (t : Trace) (node : ℕ) (p : ℕ) → IsRun t → (state t).count ≡ length t.exts → AllEnded (state t) → (state t).boxes node p ≡ (serial t.script t.exts).states node p }
+    ensures home { (t : Trace) → IsRun t → AllEnded (state t) → NothingOut (state t) }
+{}
+
+/// Where nothing was abandoned, all have ended or a step goes on: an Enter, a Leave, a Release or an End. Each of these
+/// leaves fewer steps to come.
+pub fn runs_go_on()
+    ensures onward { (t : Trace) → IsRun t → (state t).stopped ≡ false → AllEnded (state t) ⊎ ((step : Step) × GoesOn step × IsDue t step) }
+    ensures fewer { (t : Trace) (step : Step) → IsRun t → GoesOn step → IsDue t step → left (play t) (state (with_step t step)) < left (play t) (state t) }
+{}
+
+/// An admission adds to the steps still to come at most twice its handler steps, one for each microprotocol that its
+/// declaration names, and two; and its handler steps are at most five for each unit and four.
+pub fn admissions_add_few_steps()
+    ensures added { (play : Play) (core : Core) → left play (admit play core) ≤ left play core + (2 * turns play core.count + length (named (play.decl core.count)) + 2) }
+    ensures steps { (t : Trace) (k : ℕ) → IsInRange t.script → k < length t.exts → turns (play t) k ≤ 5 * (decl_of t.script (ext_at t.exts k)).budget + 4 }
+{}
