@@ -1,13 +1,12 @@
 -- What a tree that passes means keeps to the limits of a script.
-use Rattle.std.proofs.Common.{◌≡◌, ℕ, ◌≤◌, ◌<◌, Bool, true, ◌&&◌, List, [], ◌∷◌, length, map, Result, Ok, Err, codes, refl, sym, subst, arith, leb-true, nat_le}
+use Rattle.std.proofs.Common.{◌≡◌, ℕ, ◌≤◌, ◌<◌, Bool, true, ◌&&◌, List, [], ◌∷◌, length, map, Result, Ok, Err, codes, refl, sym, subst, arith, leb-true}
 use Rattle.std.specs.List.{All, list_all}
 use Rattle.std.specs.Result.{IfOk}
 use Rattle.std.proofs.lemmas.Bool.{and_parts}
 use Rattle.std.proofs.lemmas.List.{length-map}
-use Rattle.std.proofs.lemmas.List.Elements.{All-nil, All-cons, All-map}
+use Rattle.std.proofs.lemmas.List.Elements.{All-nil, All-cons}
 use Rattle.serde_json.specs.Data.{Data}
 use Rattle.samoa_model.specs.declared.ids.HandlerId.{HandlerId}
-use Rattle.samoa_model.specs.declared.script.CodeDef.{CodeDef}
 use Rattle.samoa_model.specs.declared.script.MicroDef.{MicroDef}
 use Rattle.samoa_model.specs.declared.script.DeclDef.{DeclDef}
 use Rattle.samoa_model.specs.declared.script.Script.{Script}

@@ -1,6 +1,6 @@
 -- One small script, read by the definitions themselves: its tree passes, and means what stands here.
-use Rattle.std.proofs.Common.{◌≡◌, ℕ, true, [], ◌∷◌, codes, refl}
-use Rattle.serde_json.specs.Data.{Data, unsigned, number, string, array, object, Items, no_items, item, no_members, member}
+use Rattle.std.proofs.Common.{◌≡◌, true, [], ◌∷◌, codes, refl}
+use Rattle.serde_json.specs.Data.{Data, unsigned, number, string, array, object, no_items, item, no_members, member}
 use Rattle.samoa_model.specs.declared.setup.Kind.TheVariants.{Prog}
 use Rattle.samoa_model.specs.declared.setup.Place.TheVariants.{Reg, Local}
 use Rattle.samoa_model.specs.declared.setup.Instr.TheVariants.{Copy, Deliver}

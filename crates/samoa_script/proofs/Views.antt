@@ -3,8 +3,6 @@ use Rattle.std.proofs.Common.{◌≡◌, List, [], ◌∷◌, map, refl, sym, ap
 use Rattle.std.specs.Prelude.{Bool, ◌||◌, ◌&&◌, bytes_eq}
 use Rattle.std.specs.List.{list_any, list_all}
 use Rattle.std.specs.Map.{keys_of as entry_keys}
-use Rattle.std.proofs.lemmas.List.Folds.{list_all-map}
-use Rattle.serde_json.specs.Data.{Data}
 use Rattle.serde_json.specs.View.{view, items_view, members_view}
 use Rattle.serde_json.specs.declared.value.Value.{Value}
 use Rattle.samoa_script.specs.Tree.{items_list, keys_of, known_keys}

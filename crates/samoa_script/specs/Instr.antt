@@ -1,5 +1,5 @@
 -- Instructions of a scripted handler.
-use Rattle.std.specs.Prelude.{◌≡◌, ℕ, ◌-◌, Bool, true, false, ◌&&◌, ◌||◌, ◌==◌, List, [], ◌∷◌, length, nat_le, codes, bytes_eq, Option, Some, None, unwrap_or, option_and_then, is_some, if◌then◌else◌}
+use Rattle.std.specs.Prelude.{ℕ, ◌-◌, Bool, ◌&&◌, ◌||◌, ◌==◌, List, [], ◌∷◌, length, nat_le, codes, bytes_eq, Option, Some, None, unwrap_or, option_and_then, is_some, if◌then◌else◌}
 use Rattle.serde_json.specs.Data.{Data, null}
 use Rattle.serde_json.specs.Find.{at, as_str}
 use Rattle.samoa_model.specs.declared.setup.Place.{Place}

@@ -1,5 +1,5 @@
 -- Names in a JSON tree.
-use Rattle.std.specs.Prelude.{◌≡◌, ℕ, Bool, true, false, ◌&&◌, ◌==◌, not, List, [], ◌∷◌, bytes_eq, codes, length, nat_lt}
+use Rattle.std.specs.Prelude.{ℕ, Bool, true, ◌&&◌, ◌==◌, not, List, [], ◌∷◌, bytes_eq, length, nat_lt}
 use Rattle.std.specs.List.{list_any, before_first, after_first, position_or_len}
 use Rattle.serde_json.specs.Data.{Data}
 use Rattle.samoa_model.specs.NameRule.{is_script_name}

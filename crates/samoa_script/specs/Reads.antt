@@ -2,7 +2,7 @@
 use Rattle.std.specs.Prelude.{◌≡◌, Bool, true, false, List, Vec, Result, Ok, Err}
 use Rattle.std.specs.declared.alloc.Global.{Global}
 use Rattle.samoa_script.specs.declared.fault.FirstFault.{FirstFault}
-use Rattle.samoa_script.specs.declared.fault.FirstFault.TheVariants.{NotFirst, Memory}
+use Rattle.samoa_script.specs.declared.fault.FirstFault.TheVariants.{NotFirst}
 
 -- A value exactly where the part passes its test, and then what the part means. Want of memory says nothing.
 abbrev pub Reads : {X : Type 0} → Result X FirstFault → Bool → X → Type 0

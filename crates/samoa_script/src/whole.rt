@@ -1,0 +1,74 @@
+//! Bytes to a script.
+ghost use Rattle.std.specs.Prelude.{◌≡◌, ℕ, List, IfOk, IfErr};
+ghost use Rattle.std.specs.List.{All};
+ghost use Rattle.serde_json.specs.View.{view};
+ghost use Rattle.samoa_model.specs.declared.script.Script.{Script as ScriptValue};
+ghost use Rattle.samoa_model.specs.Range.{IsInRange};
+ghost use Rattle.samoa_grammar.specs.Held.{walk_fault, script_meant, Holds};
+ghost use Rattle.samoa_form.specs.Reads.{Reads};
+ghost use Rattle.samoa_naming.specs.Sound.{HasShortCodes, HasPositions, HasPorts, HasFewOfEach, HasDecls, IsLossOf, IsCrashOf};
+ghost use Rattle.samoa_script.specs.declared.script_fault.ScriptFault.{ScriptFault as FaultValue};
+ghost use Rattle.samoa_script.specs.Fails.{Fails};
+
+use crate::script_fault::{ScriptFault, fault_of};
+use samoa_form::{Stop, read_form};
+use samoa_model::Script;
+use samoa_naming::{check_names, resolve};
+use serde_json::{Category, Value};
+use std::alloc::Global;
+
+const MOST_BYTES: usize = 1_048_576;
+
+#[tactic(auto, unfolding(samoa_grammar::specs::Held::walk_fault, samoa_grammar::specs::Held::script_meant))]
+fn script(alloc: Global, value: &Value) -> Result<Script, Stop>
+    ensures { Reads result (walk_fault (view value.now)) (script_meant (view value.now)) }
+{
+    let draft = read_form(alloc, value)?;
+    check_names(alloc, &draft)?;
+    Ok(resolve(alloc, &draft)?)
+}
+
+/// The script that the bytes hold. A text with a key twice in one object is read by its last.
+///
+/// `TooLong` comes for more than 1,048,576 bytes, `NotJson` for what is no JSON text, and otherwise the first fault of
+/// the walk over the text's tree. `Memory` comes where there was none.
+pub fn read_script(alloc: Global, bytes: &[u8]) -> Result<Script, ScriptFault>
+    ensures ok { IfOk result (Holds bytes.now) }
+    ensures fault { IfErr result (Fails bytes.now) }
+    ensures in_range { IfOk result IsInRange }
+    ensures short { IfOk result HasShortCodes }
+{
+    if bytes.len() > MOST_BYTES {
+        return Err(ScriptFault::TooLong);
+    }
+    match Value::from_slice(alloc, bytes) {
+        Ok(value) => match script(alloc, &value) {
+            Ok(script) => Ok(script),
+            Err(stop) => Err(fault_of(stop)),
+        },
+        Err(e) => Err(match e.classify() {
+            Category::Memory => ScriptFault::Memory,
+            _ => ScriptFault::NotJson,
+        }),
+    }
+}
+
+/// Bytes hold at most one script, none beside a fault, and have at most one fault.
+pub fn one_answer()
+    ensures scripts { (bytes : List ℕ) (s t : ScriptValue) → Holds bytes s → Holds bytes t → s ≡ t }
+    ensures apart { (bytes : List ℕ) (s : ScriptValue) (f : FaultValue) → Holds bytes s → Fails bytes f → f ≡ ScriptFault.Memory }
+    ensures faults { (bytes : List ℕ) (f g : FaultValue) → Fails bytes f → Fails bytes g → (f ≡ ScriptFault.Memory → ⊥) → (g ≡ ScriptFault.Memory → ⊥) → f ≡ g }
+{}
+
+/// What a script keeps to that bytes hold: it is in range, its handlers are short, each instruction's position is there,
+/// each kind has its ports and is few, and what its declarations, losses and crashes name is there.
+pub fn whole_limits()
+    ensures in_range { (bytes : List ℕ) (script : ScriptValue) → Holds bytes script → IsInRange script }
+    ensures short { (bytes : List ℕ) (script : ScriptValue) → Holds bytes script → HasShortCodes script }
+    ensures positions { (bytes : List ℕ) (script : ScriptValue) → Holds bytes script → HasPositions script }
+    ensures ports { (bytes : List ℕ) (script : ScriptValue) → Holds bytes script → HasPorts script }
+    ensures kinds { (bytes : List ℕ) (script : ScriptValue) → Holds bytes script → HasFewOfEach script }
+    ensures decls { (bytes : List ℕ) (script : ScriptValue) → Holds bytes script → HasDecls script }
+    ensures losses { (bytes : List ℕ) (script : ScriptValue) → Holds bytes script → All (IsLossOf script) script.losses }
+    ensures crashes { (bytes : List ℕ) (script : ScriptValue) → Holds bytes script → All (IsCrashOf script) script.crashes }
+{}
