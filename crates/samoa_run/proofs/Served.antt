@@ -7,8 +7,8 @@ use Rattle.samoa_ends.specs.Pieces.{AppendsPrefix}
 use Rattle.samoa_grammar.specs.Held.{Holds, IsTooLong, IsNoJson, WalkFails}
 use Rattle.samoa_script.specs.declared.fault.ScriptFault.{ScriptFault}
 use Rattle.samoa_script.specs.declared.fault.ScriptFault.TheVariants.{TooLong, NotJson, Missing, WrongForm, Unknown, Twice, Over, Memory}
-use Rattle.samoa_script.proofs.Held.{one_script, answers_apart}
-use Rattle.samoa_run.specs.Readings.{HasFault, IsReading}
+use Rattle.samoa_script.proofs.Apart.{one_script, answers_apart}
+use Rattle.samoa_run.specs.Readings.{IsFaultOf, IsReading}
 use Rattle.samoa_run.specs.declared.words.Order.{Order}
 use Rattle.samoa_run.specs.Due.{due_status, due_text, is_memory}
 use Rattle.samoa_run.specs.Serving.{Answers}
@@ -42,7 +42,7 @@ short_or_long bytes (Err (Twice name)) fails = inl fails.0.short
 short_or_long bytes (Err (Over name limit)) fails = inl fails.0.short
 short_or_long bytes (Err Memory) fails = absurd (fails.1 refl)
 
-one_fault : (bytes : List ℕ) (f g : ScriptFault) → HasFault bytes f → HasFault bytes g → f ≡ g
+one_fault : (bytes : List ℕ) (f g : ScriptFault) → IsFaultOf bytes f → IsFaultOf bytes g → f ≡ g
 one_fault bytes f g h k = search rules
 
 one_reading : (bytes : List ℕ) (r q : Result Script ScriptFault) → IsReading bytes r → IsReading bytes q → r ≡ q

@@ -7,10 +7,10 @@ use Rattle.samoa_script.specs.declared.fault.ScriptFault.TheVariants.{Memory}
 use Rattle.samoa_script.specs.Fails.{Fails}
 
 -- this is the bytes' fault; want of memory is none of theirs
-abbrev pub HasFault : List ℕ → ScriptFault → Type 0
-HasFault bytes fault = Fails bytes fault × (fault ≢ Memory)
+abbrev pub IsFaultOf : List ℕ → ScriptFault → Type 0
+IsFaultOf bytes fault = Fails bytes fault × (fault ≢ Memory)
 
 -- the bytes hold this script, or this is their fault
 abbrev pub IsReading : List ℕ → Result Script ScriptFault → Type 0
 IsReading bytes (Ok script) = Holds bytes script
-IsReading bytes (Err fault) = HasFault bytes fault
+IsReading bytes (Err fault) = IsFaultOf bytes fault

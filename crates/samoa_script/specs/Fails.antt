@@ -1,7 +1,8 @@
 -- The one fault of bytes that hold no script.
-use Rattle.std.specs.Prelude.{ℕ, List}
+use Rattle.std.specs.Prelude.{◌≡◌, ℕ, List}
+use Rattle.samoa_model.specs.declared.script.Script.{Script}
 use Rattle.samoa_grammar.specs.declared.fault.WalkFault.TheVariants as walks
-use Rattle.samoa_grammar.specs.Held.{IsTooLong, IsNoJson, WalkFails}
+use Rattle.samoa_grammar.specs.Held.{Holds, IsTooLong, IsNoJson, WalkFails}
 use Rattle.samoa_form.specs.declared.stop.Stop.{Stop}
 use Rattle.samoa_form.specs.declared.stop.Stop.TheVariants as stops
 use Rattle.samoa_script.specs.declared.fault.ScriptFault.{ScriptFault}
@@ -26,3 +27,13 @@ fault_of (stops.Fault (walks.Unknown name)) = Unknown name
 fault_of (stops.Fault (walks.Twice name)) = Twice name
 fault_of (stops.Fault (walks.Over name limit)) = Over name limit
 fault_of stops.Memory = Memory
+
+pub record HasScript (bytes : List ℕ) : Type 0 where
+  pub script : Script
+  pub holds : Holds bytes script
+
+-- the bytes have a fault of their own
+pub record HasFault (bytes : List ℕ) : Type 0 where
+  pub fault : ScriptFault
+  pub fails : Fails bytes fault
+  pub own : fault ≡ Memory → ⊥

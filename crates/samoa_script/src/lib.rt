@@ -1,8 +1,12 @@
-//! Reads scripts: bytes to the one script that they hold, or to their one fault.
+//! Scripts and their texts: bytes to the one script that they hold, or to their one fault, and a script to its canonical
+//! text.
 #![tactic(auto)]
 
 mod fault;
 mod reading;
 
 pub use fault::ScriptFault;
-pub use reading::{one_answer, read_script, whole_limits};
+pub use reading::{one_answer, read_script, some_answer, whole_limits};
+pub use samoa_model::Script;
+pub use samoa_names::EventNames;
+pub use samoa_print::{need, print_script, printed_again};

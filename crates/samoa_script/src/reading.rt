@@ -1,5 +1,5 @@
 //! Bytes to a script.
-ghost use Rattle.std.specs.Prelude.{◌≡◌, ℕ, List, IfOk, IfErr};
+ghost use Rattle.std.specs.Prelude.{◌≡◌, ◌⊎◌, ℕ, List, IfOk, IfErr};
 ghost use Rattle.std.specs.List.{All};
 ghost use Rattle.serde_json.specs.View.{view};
 ghost use Rattle.samoa_model.specs.declared.script.Script.{Script as ScriptValue};
@@ -8,7 +8,7 @@ ghost use Rattle.samoa_grammar.specs.Held.{walk_fault, script_meant, Holds};
 ghost use Rattle.samoa_form.specs.Reads.{Reads};
 ghost use Rattle.samoa_naming.specs.Sound.{HasShortCodes, HasPositions, HasPorts, HasFewOfEach, HasDecls, IsLossOf, IsCrashOf};
 ghost use Rattle.samoa_script.specs.declared.fault.ScriptFault.{ScriptFault as FaultValue};
-ghost use Rattle.samoa_script.specs.Fails.{Fails};
+ghost use Rattle.samoa_script.specs.Fails.{Fails, HasScript, HasFault};
 
 use crate::fault::{ScriptFault, fault_of};
 use samoa_form::{Stop, read_form};
@@ -58,6 +58,11 @@ pub fn one_answer()
     ensures scripts { (bytes : List ℕ) (s t : ScriptValue) → Holds bytes s → Holds bytes t → s ≡ t }
     ensures apart { (bytes : List ℕ) (s : ScriptValue) (f : FaultValue) → Holds bytes s → Fails bytes f → f ≡ ScriptFault.Memory }
     ensures faults { (bytes : List ℕ) (f g : FaultValue) → Fails bytes f → Fails bytes g → (f ≡ ScriptFault.Memory → ⊥) → (g ≡ ScriptFault.Memory → ⊥) → f ≡ g }
+{}
+
+/// Each list of bytes holds a script or has a fault of its own.
+pub fn some_answer()
+    ensures { (bytes : List ℕ) → HasScript bytes ⊎ HasFault bytes }
 {}
 
 /// What a script keeps to that bytes hold: it is in range, its handlers are short, each instruction's position is there,
