@@ -226,6 +226,6 @@ fn push_dest(to: Dest, out: &mut Vec<u8>) -> Result<(), NoMemory>
 {
     match to {
         Dest::One(node) => push_number(u64::from(node.0), out),
-        Dest::All => push_byte(b'.', out),
+        Dest::All => push_byte(b'*', out),
     }
 }
