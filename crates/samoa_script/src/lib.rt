@@ -4,6 +4,8 @@
 
 mod fault;
 mod reading;
+#[cfg(test)]
+mod tests;
 
 pub use fault::ScriptFault;
 pub use reading::{one_answer, read_script, some_answer, whole_limits};
