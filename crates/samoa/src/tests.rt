@@ -14,7 +14,8 @@ use std::sync::Wait;
 use std::test::Fail;
 use std::thread::Threads;
 
-const COUNTER: &str = r#"{"version":1,"nodes":1,"ticks":1,"micros":[{"name":"c","kind":"prog","handlers":[{"name":"h","code":[["add","r0","x0"],["copy","x0","r0"],["deliver",1],["done",1]]}]}],"decls":[{"name":"d","form":"set","micros":["c"]}],"events":[{"name":"e","decl":"d","handlers":["c.h"]}],"do":[{"tick":1,"node":0,"event":"e","args":[7]}]}"#;
+const COUNTER: &str =
+    r#"{"version":1,"nodes":1,"ticks":1,"micros":[{"name":"c","kind":"prog","handlers":[{"name":"h","code":[["add","r0","x0"],["copy","x0","r0"],["deliver",1],["done",1]]}]}],"decls":[{"name":"d","form":"set","micros":["c"]}],"events":[{"name":"e","decl":"d","handlers":["c.h"]}],"do":[{"tick":1,"node":0,"event":"e","args":[7]}]}"#;
 
 const LINES: [&str; 5] = [
     "E 1 1 0 e 7\n",
@@ -66,10 +67,30 @@ fn answers_words(rt: HostRuntime) -> Result<(), Fail> {
         (&["check", "--calls"], COUNTER, 2, "! usage\n"),
         (&["--help"], COUNTER, 2, "! usage\n"),
         (&["run"], "", 3, "! script NotJson\n"),
-        (&["check"], "{\"version\":1.0}", 3, "! script WrongForm version\n"),
-        (&["serial", "--calls"], "{}", 3, "! script Missing version\n"),
-        (&["run"], COUNTER, 0, "E 1 1 0 e 7\nD 1 c 7\nZ 1 ok 7\nS 0 c 7 0 0 0\nN 1 1 0\n"),
-        (&["serial", "--calls"], COUNTER, 0, "E 1 1 0 e 7\nC 1 1 0 c.h 7\nD 1 c 7\nY 1 1 7\nZ 1 ok 7\nS 0 c 7 0 0 0\nN 1 1 0\n"),
+        (
+            &["check"],
+            "{\"version\":1.0}",
+            3,
+            "! script WrongForm version\n",
+        ),
+        (
+            &["serial", "--calls"],
+            "{}",
+            3,
+            "! script Missing version\n",
+        ),
+        (
+            &["run"],
+            COUNTER,
+            0,
+            "E 1 1 0 e 7\nD 1 c 7\nZ 1 ok 7\nS 0 c 7 0 0 0\nN 1 1 0\n",
+        ),
+        (
+            &["serial", "--calls"],
+            COUNTER,
+            0,
+            "E 1 1 0 e 7\nC 1 1 0 c.h 7\nD 1 c 7\nY 1 1 7\nZ 1 ok 7\nS 0 c 7 0 0 0\nN 1 1 0\n",
+        ),
     ];
     for (words, input, status, text) in cases {
         let (found, written) = answer(&rt, alloc, words, input, &[], &[])?;

@@ -105,12 +105,7 @@ pub(crate) fn is_over(present: &Option<Open>) -> bool
 }
 
 /// A computation that hasn't begun, in the memory of the spare one if there is one.
-fn fresh_comp(
-    alloc: Global,
-    spare: Option<Comp>,
-    decl: u32,
-    budget: u32,
-) -> Result<Comp, NoMemory>
+fn fresh_comp(alloc: Global, spare: Option<Comp>, decl: u32, budget: u32) -> Result<Comp, NoMemory>
     requires some { 1 ≤ budget }
     requires few { budget ≤ 256 }
     ensures { IfOk result (λ comp. comp ≡ record { decl = decl; comp = fresh budget }) }
