@@ -1,9 +1,12 @@
-//! Runs the script that standard input holds, and writes its report to standard output.
+//! Does what the words ask for with the script that standard input holds, and writes the answer to standard output.
 #![tactic(auto)]
 
 ghost use Rattle.std.specs.Prelude.{◌≡◌, ◌≤◌, true, map, All};
 ghost use Rattle.samoa_model.specs.declared.setup.Kind.TheVariants.{Prog as ProgKind};
 ghost use Rattle.samoa_micro.specs.Covers.{count_of};
+
+#[cfg(test)]
+mod tests;
 
 use samoa_ends::{Sink, Source, StdSink, StdSource};
 use samoa_micro::{Micro, MicroBox, Stock};

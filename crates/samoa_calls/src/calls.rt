@@ -67,6 +67,30 @@ impl Calls {
         })
     }
 
+    /// The same in the memory of these calls, where it is enough.
+    pub(crate) fn renewed(self, budget: u32) -> Result<Calls, NoMemory>
+        requires { budget ≤ 256 }
+        ensures { IfOk result (λ calls. calls ≡ fresh budget) }
+    {
+        let most = budget as usize;
+        let mut active = self.active;
+        active.clear();
+        active.reserve(4 * most + 4)?;
+        let mut waiting = self.waiting;
+        waiting.clear();
+        waiting.reserve(most)?;
+        let entries = self.entries.renewed(9 * most + 8)?;
+        Ok(Calls {
+            active,
+            waiting,
+            taken: 0,
+            units: budget,
+            made: 0,
+            entries,
+            answer: None,
+        })
+    }
+
     /// The root call is attempted.
     pub(crate) fn start(&mut self, decl: &Decl, handlers: &[HandlerId], event: EventId, arg: Words)
         requires set { IsSet decl.now }

@@ -45,6 +45,16 @@ impl Comp {
         Ok(Comp { decl, calls })
     }
 
+    /// The same as `new` gives, in the memory of a computation that is of no further use, where that is enough.
+    pub fn renewed(self, decl: u32, budget: u32) -> Result<Comp, NoMemory>
+        requires some { 1 ≤ budget }
+        requires few { budget ≤ 256 }
+        ensures { IfOk result (λ comp. comp ≡ record { decl = decl; comp = fresh budget }) }
+    {
+        let calls = self.calls.renewed(budget)?;
+        Ok(Comp { decl, calls })
+    }
+
     /// The number of its declaration.
     pub fn decl(&self) -> u32
         ensures { result ≡ self.now.decl }

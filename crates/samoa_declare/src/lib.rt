@@ -2,12 +2,13 @@
 #![tactic(auto)]
 
 mod allowed;
+mod routes;
 mod standing;
 mod visits;
 mod weights;
 
 pub use allowed::allows;
-pub use standing::Standing;
+pub use standing::{Standing, nothing_left};
 pub use visits::Visits;
 pub use weights::weight;
 

@@ -1,6 +1,7 @@
 //! The calls of a computation that are still to come.
-ghost use Rattle.std.specs.Prelude.{◌≡◌, List, slice_get};
+ghost use Rattle.std.specs.Prelude.{◌≡◌, ◌<◌, ◌^◌, ◌↔◌, IsTrue, List, length, slice_get};
 ghost use Rattle.samoa_model.specs.declared.ids.HandlerId.{HandlerId};
+ghost use Rattle.samoa_declare.specs.Left.{NothingLeft};
 
 use samoa_model::HandlerId;
 
@@ -14,9 +15,25 @@ pub trait Standing {
 
     /// The handler of an active call, None exactly past the last of them.
     fn active(&self, at: usize) -> Option<HandlerId>
-        ensures { result ≡ slice_get (active_handlers self.now) at };
+        ensures listed { result ≡ slice_get (active_handlers self.now) at }
+        ensures few { length (active_handlers self.now) < 2 ^ 32 };
 
     /// A handler of a waiting call, None exactly past the last of them.
     fn waiting(&self, at: usize) -> Option<HandlerId>
-        ensures { result ≡ slice_get (waiting_handlers self.now) at };
+        ensures listed { result ≡ slice_get (waiting_handlers self.now) at }
+        ensures few { length (waiting_handlers self.now) < 2 ^ 32 };
+}
+
+/// Whether no call is active and none is waiting. It takes no memory.
+#[tactic(auto, using(crate::proofs::Emptied::none_empty))]
+pub fn nothing_left<T: Standing>(standing: &T) -> bool
+    ensures { IsTrue result ↔ NothingLeft (T.active_handlers standing.now) (T.waiting_handlers standing.now) }
+{
+    match standing.active(0) {
+        Some(_) => false,
+        None => match standing.waiting(0) {
+            Some(_) => false,
+            None => true,
+        },
+    }
 }

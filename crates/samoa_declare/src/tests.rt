@@ -46,3 +46,48 @@ fn allows_by_a_set(rt: HostRuntime) -> Result<(), Fail> {
     }
     Ok(())
 }
+
+#[test]
+fn allows_by_a_bound(rt: HostRuntime) -> Result<(), Fail> {
+    let bound = Decl::Bound {
+        bounds: Listed::from_vec(vec![in rt.alloc(); (1, 2)]?),
+    };
+    let mut visits = Visits::new();
+    visits.add(MicroId(1));
+    assert_eq!(rt; allows(&bound, &visits, None, handler(1)).err(), None);
+    visits.add(MicroId(1));
+    assert_eq!(rt;
+        allows(&bound, &visits, None, handler(1)).err(),
+        Some(Refusal::OverBound)
+    );
+    assert_eq!(rt;
+        allows(&bound, &visits, None, handler(0)).err(),
+        Some(Refusal::Undeclared)
+    );
+    Ok(())
+}
+
+#[test]
+fn allows_by_a_route(rt: HostRuntime) -> Result<(), Fail> {
+    let alloc = rt.alloc();
+    let route = Decl::Route {
+        vertices: Listed::from_vec(vec![in alloc; handler(0), handler(1)]?),
+        roots: Listed::from_vec(vec![in alloc; 0]?),
+        edges: Listed::from_vec(vec![in alloc; (0, 1)]?),
+    };
+    let visits = Visits::new();
+    for (caller, callee, refusal) in [
+        (None, 0, None),
+        (None, 1, Some(Refusal::OffRoute)),
+        (None, 2, Some(Refusal::Undeclared)),
+        (Some(handler(0)), 1, None),
+        (Some(handler(1)), 0, Some(Refusal::OffRoute)),
+        (Some(handler(0)), 0, Some(Refusal::OffRoute)),
+    ] {
+        assert_eq!(rt;
+            allows(&route, &visits, caller, handler(callee)).err(),
+            refusal
+        );
+    }
+    Ok(())
+}

@@ -45,4 +45,14 @@ impl Visits {
     {
         self.counts[micro.0 as usize]
     }
+
+    /// The count of a microprotocol, 0 where its number isn't below 24.
+    pub(crate) fn count(&self, micro: u32) -> u32
+        ensures { result ≡ slice_index self.now micro }
+    {
+        match self.counts.get(micro as usize) {
+            Some(count) => *count,
+            None => 0,
+        }
+    }
 }

@@ -6,7 +6,7 @@ ghost use Rattle.samoa_model.specs.Allowed.{weight, bound_in};
 use samoa_model::{Decl, HandlerId, MicroId};
 
 /// The bound of a microprotocol, 0 where it has none.
-fn bound_of(bounds: &[(u32, u32)], micro: u32) -> u32
+pub(crate) fn bound_of(bounds: &[(u32, u32)], micro: u32) -> u32
     ensures { result ≡ bound_in bounds.now micro }
 {
     for bound in bounds {
@@ -17,8 +17,15 @@ fn bound_of(bounds: &[(u32, u32)], micro: u32) -> u32
     0
 }
 
+/// Whether a bound names the microprotocol.
+pub(crate) fn has_bound(bounds: &[(u32, u32)], micro: u32) -> bool
+    ensures { result ≡ list_any (λ b. b.0 == micro) bounds.now }
+{
+    bounds.iter().any(|bound| bound.0 == micro)
+}
+
 /// Whether one of these handlers is at the microprotocol.
-fn has_vertex(vertices: &[HandlerId], micro: u32) -> bool
+pub(crate) fn has_vertex(vertices: &[HandlerId], micro: u32) -> bool
     ensures { result ≡ list_any (λ v. v.micro.0 == micro) vertices.now }
 {
     vertices.iter().any(|vertex| vertex.micro.0 == micro)

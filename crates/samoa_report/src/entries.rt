@@ -4,7 +4,7 @@ ghost use Rattle.std.specs.Io.{StartsWith};
 ghost use Rattle.samoa_serial.specs.Lines.{entry_text, accepted_text, finished_text, refusal_line, waiting_text, sent_text, delivered_text, asked_text, handler_text, dest_text};
 
 use crate::names::{change_name, event_name, handler_name, micro_name, refusal_name, refused_name};
-use crate::push::{push_head, push_number, push_text, push_words, whole_or_cut};
+use crate::push::{push_byte, push_head, push_number, push_text, push_words, whole_or_cut};
 use samoa_model::{
     ChangeId, Dest, Entry, EventId, HandlerId, MicroId, NoMemory, Refusal, Script, Words,
 };
@@ -83,12 +83,12 @@ fn push_accepted(
     ensures err { OnErr result (StartsWith out.new.items out.old.items) }
 {
     push_head(b"C ", comp, call, out)?;
-    push_text(b" ", out)?;
+    push_byte(b' ', out)?;
     push_number(u64::from(caller), out)?;
-    push_text(b" ", out)?;
+    push_byte(b' ', out)?;
     push_handler(script, handler, out)?;
     push_words(arg.as_slice(), out)?;
-    push_text(b"\n", out)
+    push_byte(b'\n', out)
 }
 
 #[tactic(auto, unfolding(samoa_serial::specs::Lines::finished_text))]
@@ -98,7 +98,7 @@ fn push_finished(comp: u32, call: u32, reply: &Words, out: &mut Vec<u8>) -> Resu
 {
     push_head(b"Y ", comp, call, out)?;
     push_words(reply.as_slice(), out)?;
-    push_text(b"\n", out)
+    push_byte(b'\n', out)
 }
 
 #[tactic(auto, unfolding(samoa_serial::specs::Lines::refusal_line))]
@@ -114,11 +114,11 @@ fn push_refused(
     ensures err { OnErr result (StartsWith out.new.items out.old.items) }
 {
     push_head(b"X ", comp, caller, out)?;
-    push_text(b" ", out)?;
+    push_byte(b' ', out)?;
     push_text(refused_name(script, event), out)?;
-    push_text(b" ", out)?;
+    push_byte(b' ', out)?;
     push_text(refusal_name(refusal), out)?;
-    push_text(b"\n", out)
+    push_byte(b'\n', out)
 }
 
 #[tactic(auto, unfolding(samoa_serial::specs::Lines::waiting_text))]
@@ -134,10 +134,10 @@ fn push_waiting(
     ensures err { OnErr result (StartsWith out.new.items out.old.items) }
 {
     push_head(b"W ", comp, call, out)?;
-    push_text(b" ", out)?;
+    push_byte(b' ', out)?;
     push_text(event_name(script, event), out)?;
     push_words(arg.as_slice(), out)?;
-    push_text(b"\n", out)
+    push_byte(b'\n', out)
 }
 
 #[tactic(auto, unfolding(samoa_serial::specs::Lines::sent_text))]
@@ -154,12 +154,12 @@ fn push_sent(
     ensures err { OnErr result (StartsWith out.new.items out.old.items) }
 {
     push_head(b"M ", comp, call, out)?;
-    push_text(b" ", out)?;
+    push_byte(b' ', out)?;
     push_dest(to, out)?;
-    push_text(b" ", out)?;
+    push_byte(b' ', out)?;
     push_text(event_name(script, event), out)?;
     push_words(arg.as_slice(), out)?;
-    push_text(b"\n", out)
+    push_byte(b'\n', out)
 }
 
 #[tactic(auto, unfolding(samoa_serial::specs::Lines::delivered_text))]
@@ -175,10 +175,10 @@ fn push_delivered(
 {
     push_text(b"D ", out)?;
     push_number(u64::from(comp), out)?;
-    push_text(b" ", out)?;
+    push_byte(b' ', out)?;
     push_text(micro_name(script, micro), out)?;
     push_words(arg.as_slice(), out)?;
-    push_text(b"\n", out)
+    push_byte(b'\n', out)
 }
 
 #[tactic(auto, unfolding(samoa_serial::specs::Lines::asked_text))]
@@ -194,10 +194,10 @@ fn push_asked(
     ensures err { OnErr result (StartsWith out.new.items out.old.items) }
 {
     push_head(b"A ", comp, call, out)?;
-    push_text(b" ", out)?;
+    push_byte(b' ', out)?;
     push_text(change_name(script, change), out)?;
     push_words(arg.as_slice(), out)?;
-    push_text(b"\n", out)
+    push_byte(b'\n', out)
 }
 
 /// Appends the name of a handler, after that of its microprotocol and a dot.
@@ -215,7 +215,7 @@ fn push_both_names(script: &Script, handler: HandlerId, out: &mut Vec<u8>) -> Re
     ensures err { OnErr result (StartsWith out.new.items out.old.items) }
 {
     push_text(micro_name(script, handler.micro), out)?;
-    push_text(b".", out)?;
+    push_byte(b'.', out)?;
     push_text(handler_name(script, handler), out)
 }
 
@@ -226,6 +226,6 @@ fn push_dest(to: Dest, out: &mut Vec<u8>) -> Result<(), NoMemory>
 {
     match to {
         Dest::One(node) => push_number(u64::from(node.0), out),
-        Dest::All => push_text(b"*", out),
+        Dest::All => push_byte(b'*', out),
     }
 }

@@ -13,7 +13,7 @@ mod tests;
 
 pub use entries::entry_line;
 use names::{cause_letter, cause_name, micro_name, refusal_name};
-use push::{push_number, push_text, push_words, whole_or_cut};
+use push::{push_byte, push_number, push_text, push_words, whole_or_cut};
 use samoa_model::{Ending, Ext, MicroId, NoMemory, NodeId, Reply, Script, Words};
 
 /// Appends the first line of a computation: `E`, or `B` for a change of bindings, the computation's number, its
@@ -83,14 +83,14 @@ fn push_ext(script: &Script, comp: u32, ext: &Ext, out: &mut Vec<u8>) -> Result<
 {
     push_text(cause_letter(ext.cause), out)?;
     push_number(u64::from(comp), out)?;
-    push_text(b" ", out)?;
+    push_byte(b' ', out)?;
     push_number(u64::from(ext.tick), out)?;
-    push_text(b" ", out)?;
+    push_byte(b' ', out)?;
     push_number(u64::from(ext.node.0), out)?;
-    push_text(b" ", out)?;
+    push_byte(b' ', out)?;
     push_text(cause_name(script, ext.cause), out)?;
     push_words(ext.args.as_slice(), out)?;
-    push_text(b"\n", out)
+    push_byte(b'\n', out)
 }
 
 #[tactic(auto, unfolding(samoa_serial::specs::Lines::end_text))]
@@ -111,7 +111,7 @@ fn push_end(comp: u32, ending: &Ending, out: &mut Vec<u8>) -> Result<(), NoMemor
         }
         Ending::Cut => push_text(b" cut", out)?,
     }
-    push_text(b"\n", out)
+    push_byte(b'\n', out)
 }
 
 #[tactic(auto, unfolding(samoa_serial::specs::Lines::state_text))]
@@ -127,10 +127,10 @@ fn push_state(
 {
     push_text(b"S ", out)?;
     push_number(u64::from(node.0), out)?;
-    push_text(b" ", out)?;
+    push_byte(b' ', out)?;
     push_text(micro_name(script, micro), out)?;
     push_words(words.as_slice(), out)?;
-    push_text(b"\n", out)
+    push_byte(b'\n', out)
 }
 
 #[tactic(auto, unfolding(samoa_serial::specs::Lines::total_text))]
@@ -140,9 +140,9 @@ fn push_total(comps: u32, deliveries: u64, refusals: u64, out: &mut Vec<u8>) -> 
 {
     push_text(b"N ", out)?;
     push_number(u64::from(comps), out)?;
-    push_text(b" ", out)?;
+    push_byte(b' ', out)?;
     push_number(deliveries, out)?;
-    push_text(b" ", out)?;
+    push_byte(b' ', out)?;
     push_number(refusals, out)?;
-    push_text(b"\n", out)
+    push_byte(b'\n', out)
 }

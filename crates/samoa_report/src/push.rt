@@ -1,5 +1,5 @@
 //! The parts of a line. Each appends its text, and want of memory leaves `out` as it was.
-ghost use Rattle.std.specs.Prelude.{◌≡◌, ◌++◌, take, codes, decimal, OnOk, OnErr};
+ghost use Rattle.std.specs.Prelude.{◌≡◌, [], ◌∷◌, ◌++◌, take, codes, decimal, OnOk, OnErr};
 ghost use Rattle.std.specs.Io.{StartsWith};
 ghost use Rattle.samoa_serial.specs.Lines.{words_text};
 
@@ -30,6 +30,14 @@ pub fn push_text(text: &[u8], out: &mut Vec<u8>) -> Result<(), NoMemory>
     Ok(())
 }
 
+pub fn push_byte(byte: u8, out: &mut Vec<u8>) -> Result<(), NoMemory>
+    ensures ok { OnOk result (out.new.items ≡ out.old.items ++ byte ∷ []) }
+    ensures err { OnErr result (out.new.items ≡ out.old.items) }
+{
+    out.push(byte)?;
+    Ok(())
+}
+
 pub fn push_number(number: u64, out: &mut Vec<u8>) -> Result<(), NoMemory>
     ensures ok { OnOk result (out.new.items ≡ out.old.items ++ decimal number) }
     ensures err { OnErr result (out.new.items ≡ out.old.items) }
@@ -53,7 +61,7 @@ fn push_fields(letter: &[u8], comp: u32, call: u32, out: &mut Vec<u8>) -> Result
 {
     push_text(letter, out)?;
     push_number(u64::from(comp), out)?;
-    push_text(b" ", out)?;
+    push_byte(b' ', out)?;
     push_number(u64::from(call), out)
 }
 
@@ -72,7 +80,7 @@ fn push_each(words: &[u64], out: &mut Vec<u8>) -> Result<(), NoMemory>
     ensures err { OnErr result (StartsWith out.new.items out.old.items) }
 {
     for word in words {
-        push_text(b" ", out)?;
+        push_byte(b' ', out)?;
         push_number(*word, out)?;
     }
     Ok(())

@@ -1,5 +1,5 @@
 -- The computations of a batch, one after another.
-use Rattle.std.proofs.Common.{◌≡◌, ℕ, ◌+◌, ◌<◌, ◌≤◌, List, [], ◌∷◌, ◌++◌, length, map, take, drop, get_or, refl, sym, ap, ◌∙◌, subst, arith, append_assoc, append-nil, take-append-drop}
+use Rattle.std.proofs.Common.{◌≡◌, ℕ, Bool, ◌+◌, ◌<◌, ◌≤◌, List, [], ◌∷◌, ◌++◌, length, map, take, drop, get_or, refl, sym, ap, ◌∙◌, subst, arith, append_assoc, append-nil, take-append-drop}
 use Rattle.std.proofs.lemmas.List.{get_or-map, length-map, map_more, map-append}
 use Rattle.std.specs.List.{All}
 use Rattle.std.proofs.lemmas.List.Elements.{All-get_or}
@@ -47,30 +47,30 @@ past_more past before items i item ext within is e at =
     ap (λ (l : List Ext). l ++ ext ∷ []) at ∙ append_assoc past (map ext_of (take i items)) (ext ∷ [])
     ∙ ap (λ (l : List Ext). past ++ l) (sym (done_more items i item ext (within, is) e))
 
-text_more : (script : Script) (past before done : List Ext) (ext : Ext) → before ≡ past ++ done
-    → later_text script past (done ++ ext ∷ []) ≡ later_text script past done ++ next_text script before ext
-text_more script past before done ext at =
-    later_text-one_more script past done ext ∙ ap (λ (l : List Ext). later_text script past done ++ next_text script l ext) (sym at)
+text_more : (script : Script) (calls : Bool) (past before done : List Ext) (ext : Ext) → before ≡ past ++ done
+    → later_text script calls past (done ++ ext ∷ []) ≡ later_text script calls past done ++ next_text script calls before ext
+text_more script calls past before done ext at =
+    later_text-one_more script calls past done ext ∙ ap (λ (l : List Ext). later_text script calls past done ++ next_text script calls l ext) (sym at)
 
 -- the first were written, and the next
-pub wrote_next : (script : Script) (past before : List Ext) (items : List DoDef) (i : ℕ) (item : DoDef) (ext : Ext) (old mid new : Option (List ℕ))
+pub wrote_next : (script : Script) (calls : Bool) (past before : List Ext) (items : List DoDef) (i : ℕ) (item : DoDef) (ext : Ext) (old mid new : Option (List ℕ))
     → i < length items → item ≡ get_or items i item → ext ≡ ext_of item → before ≡ past ++ map ext_of (take i items)
-    → Appends old mid (later_text script past (map ext_of (take i items))) → Appends mid new (next_text script before ext)
-    → Appends old new (later_text script past (map ext_of (take (i + 1) items)))
-wrote_next script past before items i item ext old mid new within is e at first next =
+    → Appends old mid (later_text script calls past (map ext_of (take i items))) → Appends mid new (next_text script calls before ext)
+    → Appends old new (later_text script calls past (map ext_of (take (i + 1) items)))
+wrote_next script calls past before items i item ext old mid new within is e at first next =
     let P : List ℕ → Type 0 = Appends old new in
-    let same = ap (later_text script past) (done_more items i item ext (within, is) e) ∙ text_more script past before (map ext_of (take i items)) ext at in
+    let same = ap (later_text script calls past) (done_more items i item ext (within, is) e) ∙ text_more script calls past before (map ext_of (take i items)) ext at in
     subst P (sym same) (Appends-trans old mid new _ _ first next)
 
 -- the first were written, and a part of the next
-pub wrote_in_part : (script : Script) (past before : List Ext) (items : List DoDef) (i : ℕ) (item : DoDef) (ext : Ext) (old mid new : Option (List ℕ))
+pub wrote_in_part : (script : Script) (calls : Bool) (past before : List Ext) (items : List DoDef) (i : ℕ) (item : DoDef) (ext : Ext) (old mid new : Option (List ℕ))
     → i < length items → item ≡ get_or items i item → ext ≡ ext_of item → before ≡ past ++ map ext_of (take i items)
-    → Appends old mid (later_text script past (map ext_of (take i items))) → AppendsPrefix mid new (next_text script before ext)
-    → AppendsPrefix old new (later_text script past (map ext_of items))
-wrote_in_part script past before items i item ext old mid new within is e at first next =
+    → Appends old mid (later_text script calls past (map ext_of (take i items))) → AppendsPrefix mid new (next_text script calls before ext)
+    → AppendsPrefix old new (later_text script calls past (map ext_of items))
+wrote_in_part script calls past before items i item ext old mid new within is e at first next =
     let P : List ℕ → Type 0 = AppendsPrefix old new in
     let done : List Ext = map ext_of (take i items) in
     let rest : List Ext = map ext_of (drop (i + 1) items) in
-    let same = ap (later_text script past) (all_are items i item ext (within, is) e) ∙ later_text-append script past (done ++ ext ∷ []) rest
-    ∙ ap (λ (text : List ℕ). text ++ later_text script (past ++ (done ++ ext ∷ [])) rest) (text_more script past before done ext at) in
+    let same = ap (later_text script calls past) (all_are items i item ext (within, is) e) ∙ later_text-append script calls past (done ++ ext ∷ []) rest
+    ∙ ap (λ (text : List ℕ). text ++ later_text script calls (past ++ (done ++ ext ∷ [])) rest) (text_more script calls past before done ext at) in
     subst P (sym same) (part_more old new _ _ (part_after old mid new _ _ first next))

@@ -1,5 +1,5 @@
 -- The last part of the report.
-use Rattle.std.proofs.Common.{◌≡◌, ℕ, ◌++◌, List, [], length, false, sym, ap, ◌∙◌, subst, append_assoc}
+use Rattle.std.proofs.Common.{◌≡◌, ℕ, Bool, ◌++◌, List, [], length, false, sym, ap, ◌∙◌, subst, append_assoc}
 use Rattle.std.specs.declared.option.Option.{Option}
 use Rattle.std.specs.Io.KnownBytes.{Appends}
 use Rattle.std.proofs.KnownBytes.{Appends-trans}
@@ -34,32 +34,32 @@ closing_text-built script past core totals none states all has e f h =
     (f ∙ ap (λ (t : List ℕ). t ++ states_text script (states_of core) script.nodes) e ∙ ap (λ (d : Course). states_text script (states_of d) script.nodes) has.idle)
 
 -- the report is what the computations write, and then this
-pub report-is : (script : Script) → report script false ≡ later_text script [] (history script) ++ closing_text script (history script)
+pub report-is : (script : Script) (calls : Bool) → report script calls ≡ later_text script calls [] (history script) ++ closing_text script (history script)
 unfolding report closing_text
-report-is script =
+report-is script calls =
     let exts = history script in
     let served = serial script exts in
-    report_of-parts script false exts
-    ∙ append_assoc (comps_text script false 1 exts served.comps) (states_text script served.states script.nodes)
+    report_of-parts script calls exts
+    ∙ append_assoc (comps_text script calls 1 exts served.comps) (states_text script served.states script.nodes)
     (total_text (length exts) (entries_of_sort is_delivery served.comps) (entries_of_sort is_refusal served.comps))
-    ∙ ap (λ (t : List ℕ). t ++ closing_text script exts) (comps_text-all script exts)
+    ∙ ap (λ (t : List ℕ). t ++ closing_text script exts) (comps_text-all script calls exts)
 
 -- all was written
-pub report_written : (script : Script) (past : List Ext) (old mid new : Option (List ℕ)) → past ≡ history script
-    → Appends old mid (later_text script [] (history script)) → Appends mid new (closing_text script past) → Appends old new (report script false)
-report_written script past old mid new e first last =
+pub report_written : (script : Script) (calls : Bool) (past : List Ext) (old mid new : Option (List ℕ)) → past ≡ history script
+    → Appends old mid (later_text script calls [] (history script)) → Appends mid new (closing_text script past) → Appends old new (report script calls)
+report_written script calls past old mid new e first last =
     let P : List ℕ → Type 0 = Appends old new in
     let C : List Ext → Type 0 = λ exts. Appends mid new (closing_text script exts) in
-    subst P (sym (report-is script)) (Appends-trans old mid new _ _ first (subst C e last))
+    subst P (sym (report-is script calls)) (Appends-trans old mid new _ _ first (subst C e last))
 
 -- the computations were written, and a part of the rest
-pub report_in_part : (script : Script) (past : List Ext) (old mid new : Option (List ℕ)) → past ≡ history script
-    → Appends old mid (later_text script [] (history script)) → AppendsPrefix mid new (closing_text script past) → AppendsPrefix old new (report script false)
-report_in_part script past old mid new e first last =
+pub report_in_part : (script : Script) (calls : Bool) (past : List Ext) (old mid new : Option (List ℕ)) → past ≡ history script
+    → Appends old mid (later_text script calls [] (history script)) → AppendsPrefix mid new (closing_text script past) → AppendsPrefix old new (report script calls)
+report_in_part script calls past old mid new e first last =
     let P : List ℕ → Type 0 = AppendsPrefix old new in
     let C : List Ext → Type 0 = λ exts. AppendsPrefix mid new (closing_text script exts) in
-    subst P (sym (report-is script)) (part_after old mid new _ _ first (subst C e last))
+    subst P (sym (report-is script calls)) (part_after old mid new _ _ first (subst C e last))
 
 -- a part of the computations was written
-pub report_begun : (script : Script) (old new : Option (List ℕ)) → AppendsPrefix old new (later_text script [] (history script)) → AppendsPrefix old new (report script false)
-report_begun script old new first = let P : List ℕ → Type 0 = AppendsPrefix old new in subst P (sym (report-is script)) (part_more old new _ _ first)
+pub report_begun : (script : Script) (calls : Bool) (old new : Option (List ℕ)) → AppendsPrefix old new (later_text script calls [] (history script)) → AppendsPrefix old new (report script calls)
+report_begun script calls old new first = let P : List ℕ → Type 0 = AppendsPrefix old new in subst P (sym (report-is script calls)) (part_more old new _ _ first)

@@ -44,17 +44,17 @@ count_by-one_more p xs at x h = here (p x) refl
     here false e = let same = count_by_more_no p xs at x (found_within xs at x h) (ap p (get_or_from_slice_get xs at x x (sym h)) ∙ e) in omega arith
 
 -- the first line, the entries and the last line, each after what stood before
-pub comp_text-built : (script : Script) (comp : ℕ) (ext : Ext) (ran : Ran) (start first more all : List ℕ)
-    → first ≡ start ++ ext_text script comp ext → more ≡ first ++ entries_text script comp false ran.world.entries → all ≡ more ++ end_text comp ran.value
-    → all ≡ start ++ comp_text script false comp ext ran
-comp_text-built script comp ext ran start first more all e f h =
+pub comp_text-built : (script : Script) (calls : Bool) (comp : ℕ) (ext : Ext) (ran : Ran) (start first more all : List ℕ)
+    → first ≡ start ++ ext_text script comp ext → more ≡ first ++ entries_text script comp calls ran.world.entries → all ≡ more ++ end_text comp ran.value
+    → all ≡ start ++ comp_text script calls comp ext ran
+comp_text-built script calls comp ext ran start first more all e f h =
     let head = ext_text script comp ext in
-    let entries = entries_text script comp false ran.world.entries in
+    let entries = entries_text script comp calls ran.world.entries in
     let last = end_text comp ran.value in
     h ∙ ap (λ (t : List ℕ). t ++ last) (f ∙ ap (λ (t : List ℕ). t ++ entries) e)
     ∙ ap (λ (t : List ℕ). t ++ last) (append_assoc start head entries)
     ∙ append_assoc start (head ++ entries) last
-    ∙ ap (λ (t : List ℕ). start ++ t) (sym (comp_text-parts script false comp ext ran))
+    ∙ ap (λ (t : List ℕ). start ++ t) (sym (comp_text-parts script calls comp ext ran))
 
 -- there is room to count one more
 pub room_for_one : (p : Entry → Bool) (es : List Entry) (at : ℕ) (e : Entry) (before now : ℕ) → Some e ≡ slice_get es at → now ≡ before + count_by p (take at es)

@@ -1,5 +1,5 @@
 -- What a script admits, tick by tick, and what is written of it.
-use Rattle.std.proofs.Common.{◌≡◌, ℕ, zero, suc, ◌+◌, ◌-◌, ◌<◌, ◌≤◌, List, [], ◌∷◌, ◌++◌, length, map, filter, refl, sym, ap, ◌∙◌, subst, arith, append_assoc, append-nil, add-zero, length-append}
+use Rattle.std.proofs.Common.{◌≡◌, ℕ, Bool, zero, suc, ◌+◌, ◌-◌, ◌<◌, ◌≤◌, List, [], ◌∷◌, ◌++◌, length, map, filter, refl, sym, ap, ◌∙◌, subst, arith, append_assoc, append-nil, add-zero, length-append}
 use Rattle.std.proofs.lemmas.List.{length-map}
 use Rattle.std.proofs.lemmas.List.Sums.{length-filter, count_by-le-length}
 use Rattle.std.specs.List.{All}
@@ -44,11 +44,11 @@ next_past script before past items is =
     ap (λ (l : List Ext). l ++ map ext_of items) is.0
     ∙ ap (λ (l : List Ext). history_to script before ++ l) (items_are_batch script (before + 1) items is.1) ∙ sym (history_to-one_more script before)
 
-next_history : (script : Script) (before : ℕ) (past : List Ext) (items : List DoDef) → IsNext script before past items
-    → later_text script [] (history_to script (before + 1)) ≡ later_text script [] (history_to script before) ++ later_text script past (map ext_of items)
-next_history script before past items is =
-    ap (later_text script []) (sym (next_past script before past items is)) ∙ later_text-append script [] past (map ext_of items)
-    ∙ ap (λ (l : List Ext). later_text script [] l ++ later_text script past (map ext_of items)) is.0
+next_history : (script : Script) (calls : Bool) (before : ℕ) (past : List Ext) (items : List DoDef) → IsNext script before past items
+    → later_text script calls [] (history_to script (before + 1)) ≡ later_text script calls [] (history_to script before) ++ later_text script calls past (map ext_of items)
+next_history script calls before past items is =
+    ap (later_text script calls []) (sym (next_past script before past items is)) ∙ later_text-append script calls [] past (map ext_of items)
+    ∙ ap (λ (l : List Ext). later_text script calls [] l ++ later_text script calls past (map ext_of items)) is.0
 
 pub batch_named : (script : Script) (before : ℕ) (items : List DoDef) → IsInRange script → items ≡ of_tick (before + 1) script.does → All (IsExtOf script) (map ext_of items)
 batch_named script before items range e =
@@ -67,12 +67,12 @@ pub has_run-batch : (script : Script) (before : ℕ) (past : List Ext) (items : 
 has_run-batch script before past items core totals is has =
     let H : List Ext → Type 0 = λ l. HasRun script l core totals in subst H (next_past script before past items is) has
 
-pub wrote_batch : (script : Script) (before : ℕ) (past : List Ext) (items : List DoDef) (old mid new : Option (List ℕ)) → IsNext script before past items
-    → Appends old mid (later_text script [] (history_to script before)) → Appends mid new (later_text script past (map ext_of items))
-    → Appends old new (later_text script [] (history_to script (before + 1)))
-wrote_batch script before past items old mid new is first next =
+pub wrote_batch : (script : Script) (calls : Bool) (before : ℕ) (past : List Ext) (items : List DoDef) (old mid new : Option (List ℕ)) → IsNext script before past items
+    → Appends old mid (later_text script calls [] (history_to script before)) → Appends mid new (later_text script calls past (map ext_of items))
+    → Appends old new (later_text script calls [] (history_to script (before + 1)))
+wrote_batch script calls before past items old mid new is first next =
     let P : List ℕ → Type 0 = Appends old new in
-    subst P (sym (next_history script before past items is)) (Appends-trans old mid new _ _ first next)
+    subst P (sym (next_history script calls before past items is)) (Appends-trans old mid new _ _ first next)
 
 -- the history goes on from each tick
 goes_on : (script : Script) (n k : ℕ) → (rest : List Ext) × (history_to script (n + k) ≡ history_to script n ++ rest)
@@ -86,22 +86,22 @@ goes_on script n (suc k) =
     )
 
 -- what was written of the first ticks is a part of what is written of all
-pub part_of_history : (script : Script) (n : ℕ) (old new : Option (List ℕ)) → n ≤ script.ticks
-    → AppendsPrefix old new (later_text script [] (history_to script n)) → AppendsPrefix old new (later_text script [] (history script))
-part_of_history script n old new within p =
+pub part_of_history : (script : Script) (calls : Bool) (n : ℕ) (old new : Option (List ℕ)) → n ≤ script.ticks
+    → AppendsPrefix old new (later_text script calls [] (history_to script n)) → AppendsPrefix old new (later_text script calls [] (history script))
+part_of_history script calls n old new within p =
     let P : List ℕ → Type 0 = AppendsPrefix old new in
     let rest = goes_on script n (script.ticks - n) in
     let all : script.ticks ≡ n + (script.ticks - n) = omega arith in
-    let same : later_text script [] (history script) ≡ later_text script [] (history_to script n) ++ later_text script (history_to script n) rest.0
-    = ap (later_text script []) (history-is script ∙ ap (history_to script) all ∙ rest.1) ∙ later_text-append script [] (history_to script n) rest.0 in
+    let same : later_text script calls [] (history script) ≡ later_text script calls [] (history_to script n) ++ later_text script calls (history_to script n) rest.0
+    = ap (later_text script calls []) (history-is script ∙ ap (history_to script) all ∙ rest.1) ∙ later_text-append script calls [] (history_to script n) rest.0 in
     subst P (sym same) (part_more old new _ _ p)
 
-pub wrote_batch_in_part : (script : Script) (before : ℕ) (past : List Ext) (items : List DoDef) (old mid new : Option (List ℕ)) → before < script.ticks → IsNext script before past items
-    → Appends old mid (later_text script [] (history_to script before)) → AppendsPrefix mid new (later_text script past (map ext_of items))
-    → AppendsPrefix old new (later_text script [] (history script))
-wrote_batch_in_part script before past items old mid new within is first next =
+pub wrote_batch_in_part : (script : Script) (calls : Bool) (before : ℕ) (past : List Ext) (items : List DoDef) (old mid new : Option (List ℕ)) → before < script.ticks → IsNext script before past items
+    → Appends old mid (later_text script calls [] (history_to script before)) → AppendsPrefix mid new (later_text script calls past (map ext_of items))
+    → AppendsPrefix old new (later_text script calls [] (history script))
+wrote_batch_in_part script calls before past items old mid new within is first next =
     let P : List ℕ → Type 0 = AppendsPrefix old new in
-    part_of_history script (before + 1) old new (omega arith) (subst P (sym (next_history script before past items is)) (part_after old mid new _ _ first next))
+    part_of_history script calls (before + 1) old new (omega arith) (subst P (sym (next_history script calls before past items is)) (part_after old mid new _ _ first next))
 
 -- after the last tick
 pub all_ticks : (script : Script) (n : ℕ) → n ≡ script.ticks → history_to script n ≡ history script

@@ -5,10 +5,12 @@ pub mod EntryBound
 pub mod EntrySteps
 pub mod Histories
 pub mod LaterText
+pub mod Obeying
 pub mod OneMore
 pub mod OneWord
 pub mod Parts
 pub mod Progress
 pub mod Remaining
+pub mod Runnable
 pub mod Served
 pub mod Ticks

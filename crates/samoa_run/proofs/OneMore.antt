@@ -54,11 +54,11 @@ last_ran script past ext c comp left =
     ap (λ (d : Course). ended_at d comp) left.course
     ∙ ap (λ (k : ℕ). get_or (serial script (past ++ ext ∷ [])).comps k no_ran) (place past comp left.number) ∙ last_comp script past ext no_ran
 
-pub last_text : (script : Script) (past : List Ext) (ext : Ext) (c : Course) (comp : ℕ) → IsLeft script past ext c comp
-    → comp_text script false comp ext (ended_at c comp) ≡ next_text script past ext
-last_text script past ext c comp left =
-    ap (λ (k : ℕ). comp_text script false k ext (ended_at c comp)) left.number
-    ∙ ap (λ (r : Ran). comp_text script false (length past + 1) ext r) (last_ran script past ext c comp left)
+pub last_text : (script : Script) (calls : Bool) (past : List Ext) (ext : Ext) (c : Course) (comp : ℕ) → IsLeft script past ext c comp
+    → comp_text script calls comp ext (ended_at c comp) ≡ next_text script calls past ext
+last_text script calls past ext c comp left =
+    ap (λ (k : ℕ). comp_text script calls k ext (ended_at c comp)) left.number
+    ∙ ap (λ (r : Ran). comp_text script calls (length past + 1) ext r) (last_ran script past ext c comp left)
 
 -- entries of a sort: at most 2,312 for each computation
 sorts_from : (sort : Entry → Bool) (script : Script) → IsInRange script → (before : List Ext) (served : Served) (later : List Ext)

@@ -1,20 +1,17 @@
 -- How a call of the top ends.
-use Rattle.std.proofs.Common.{◌≡◌, ℕ, ◌+◌, ◌*◌, ◌≤◌, ◌<◌, ◌&&◌, true, false, List, [], ◌∷◌, ◌++◌, length, None, Some, refl, sym, ap, ◌∙◌, subst, inl, inr, arith, append-nil, length-append, nat_le}
+use Rattle.std.proofs.Common.{◌≡◌, ◌⊎◌, ℕ, true, false, ◌≤◌, ◌<◌, List, [], ◌++◌, length, None, Some, Result, Ok, Err, refl, sym, ap, ◌∙◌, subst, inl, inr, arith, append-nil, length-append, rules}
 use Rattle.std.specs.declared.option.Option.{Option}
-use Rattle.std.specs.List.{count_by, list_all}
-use Rattle.std.proofs.lemmas.Bool.{le-leb}
-use Rattle.std.proofs.lemmas.List.Sums.{count_by-le-length}
 use Rattle.std.specs.Io.KnownBytes.{Appends, Consumes, IsAtEnd}
-use Rattle.samoa_model.specs.declared.setup.Kind.{Kind}
-use Rattle.samoa_model.specs.contracts.setup.KindPartialEq.TheImpl.{ghosts}
-use Rattle.samoa_model.specs.declared.setup.Kind.TheVariants.{Prog}
-use Rattle.samoa_model.specs.declared.script.MicroDef.{MicroDef}
 use Rattle.samoa_model.specs.declared.script.Script.{Script}
 use Rattle.samoa_ends.specs.Pieces.{AppendsPrefix}
-use Rattle.samoa_script.specs.First.{Holds, first_script, the_micro, micro_of}
-use Rattle.samoa_micro.specs.Covers.{Covers, count_of, wanted}
-use Rattle.samoa_micro.proofs.CoverLaws.{Covers-from_all, has_enough}
-use Rattle.samoa_run.specs.Serving.{Answers, HoldsNone}
+use Rattle.samoa_grammar.specs.Held.{Holds, IsTooLong, IsNoJson, WalkFails}
+use Rattle.samoa_script.specs.declared.fault.ScriptFault.{ScriptFault}
+use Rattle.samoa_script.specs.declared.fault.ScriptFault.TheVariants.{TooLong, NotJson, Missing, WrongForm, Unknown, Twice, Over, Memory}
+use Rattle.samoa_script.proofs.Apart.{one_script, answers_apart}
+use Rattle.samoa_run.specs.Readings.{IsFaultOf, IsReading}
+use Rattle.samoa_run.specs.declared.words.Order.{Order}
+use Rattle.samoa_run.specs.Due.{due_status, due_text, is_memory}
+use Rattle.samoa_run.specs.Serving.{Answers}
 
 -- what was read is the input, where that is no longer than the limit
 read_all : (a b : Option (List ℕ)) (input bytes : List ℕ) → a ≡ Some input → Consumes a b bytes → (length bytes ≤ 1048576 → IsAtEnd b)
@@ -33,37 +30,79 @@ no_longer (Some x) (Some y) input bytes told taken =
     let whole : length input ≡ length (bytes ++ y) = ap (λ (l : List ℕ). length l) (same ∙ taken) in
     omega (arith, whole, length-append bytes y)
 
--- what the input holds was read, and what was read is what the input holds
-pub held_read : (a b : Option (List ℕ)) (input bytes text : List ℕ) (script : Script) → a ≡ Some input → Consumes a b bytes → (length bytes ≤ 1048576 → IsAtEnd b)
-    → text ≡ bytes → Holds input script → Holds text script
-held_read a b input bytes text script told taken end same h =
-    let H : List ℕ → Type 0 = λ l. Holds l script in
-    let short : length bytes ≤ 1048576 = omega (arith, no_longer a b input bytes told taken, h.short) in
-    subst H (read_all a b input bytes told taken end short ∙ sym same) h
+-- a reading of bytes that aren't too long
+short_or_long : (bytes : List ℕ) (found : Result Script ScriptFault) → IsReading bytes found → (length bytes ≤ 1048576) ⊎ ((1048576 < length bytes) × (found ≡ Err TooLong))
+short_or_long bytes (Ok script) held = inl held.short
+short_or_long bytes (Err TooLong) fails = inr (fails.0, refl)
+short_or_long bytes (Err NotJson) fails = inl fails.0.short
+short_or_long bytes (Err (Missing key)) fails = inl fails.0.short
+short_or_long bytes (Err (WrongForm key)) fails = inl fails.0.short
+short_or_long bytes (Err (Unknown name)) fails = inl fails.0.short
+short_or_long bytes (Err (Twice name)) fails = inl fails.0.short
+short_or_long bytes (Err (Over name limit)) fails = inl fails.0.short
+short_or_long bytes (Err Memory) fails = absurd (fails.1 refl)
 
-pub read_held : (a b : Option (List ℕ)) (input bytes text : List ℕ) (script : Script) → a ≡ Some input → Consumes a b bytes → (length bytes ≤ 1048576 → IsAtEnd b)
-    → text ≡ bytes → Holds text script → Holds input script
-read_held a b input bytes text script told taken end same h =
-    let H : List ℕ → Type 0 = λ l. Holds l script in
+one_fault : (bytes : List ℕ) (f g : ScriptFault) → IsFaultOf bytes f → IsFaultOf bytes g → f ≡ g
+one_fault bytes f g h k = search rules
+
+one_reading : (bytes : List ℕ) (r q : Result Script ScriptFault) → IsReading bytes r → IsReading bytes q → r ≡ q
+one_reading bytes (Ok s) (Ok t) h k = ap Ok (one_script bytes s t h k)
+one_reading bytes (Ok s) (Err f) h k = absurd (k.1 (answers_apart bytes s f h k.0))
+one_reading bytes (Err f) (Ok s) h k = absurd (h.1 (answers_apart bytes s f k h.0))
+one_reading bytes (Err f) (Err g) h k = ap Err (one_fault bytes f g h k)
+
+both_long : (text input : List ℕ) (r found : Result Script ScriptFault) → length text ≤ length input
+    → (length text ≤ 1048576) ⊎ ((1048576 < length text) × (r ≡ Err TooLong)) → (length input ≤ 1048576) ⊎ ((1048576 < length input) × (found ≡ Err TooLong))
+    → (length text ≤ 1048576) ⊎ (found ≡ r)
+both_long text input r found within (inl short) other = inl short
+both_long text input r found within (inr long) (inl short) = absurd (omega (arith, within, long.0, short))
+both_long text input r found within (inr long) (inr same) = inr (same.1 ∙ sym long.1)
+
+-- what was read reads as the input does
+pub same_reading : (a b : Option (List ℕ)) (input bytes text : List ℕ) (r found : Result Script ScriptFault) → a ≡ Some input → Consumes a b bytes
+    → (length bytes ≤ 1048576 → IsAtEnd b) → text ≡ bytes → IsReading text r → IsReading input found → found ≡ r
+same_reading a b input bytes text r found told taken end same here there =
     let as_many : length text ≡ length bytes = ap (λ (l : List ℕ). length l) same in
-    let short : length bytes ≤ 1048576 = omega (arith, as_many, h.short) in
-    subst H (same ∙ sym (read_all a b input bytes told taken end short)) h
+    let within : length text ≤ length input = omega (arith, no_longer a b input bytes told taken, as_many) in
+    either (both_long text input r found within (short_or_long text r here) (short_or_long input found there))
+  where
+    either : (length text ≤ 1048576) ⊎ (found ≡ r) → found ≡ r
+    either (inr is) = is
+    either (inl short) =
+        let as_many : length text ≡ length bytes = ap (λ (l : List ℕ). length l) same in
+        let whole : input ≡ text = read_all a b input bytes told taken end (omega (arith, short, as_many)) ∙ sym same in
+        let R : List ℕ → Type 0 = λ l. IsReading l found in
+        one_reading text found r (subst R whole there) here
 
--- bytes hold one script
-pub same_script : (bytes : List ℕ) (s t : Script) → Holds bytes s → Holds bytes t → s ≡ t
-same_script bytes s t h k =
-    let same : h.tree ≡ k.tree = cc (h.json.1, k.json.1) in
-    h.means ∙ ap first_script same ∙ sym k.means
+-- the input reads as what was read, where that is no longer than the limit
+pub reading_of_input : (a b : Option (List ℕ)) (input bytes text : List ℕ) (r : Result Script ScriptFault) → a ≡ Some input → Consumes a b bytes
+    → (length bytes ≤ 1048576 → IsAtEnd b) → text ≡ bytes → IsReading text r → IsReading input r
+reading_of_input a b input bytes text r told taken end same here = either (short_or_long text r here)
+  where
+    either : (length text ≤ 1048576) ⊎ ((1048576 < length text) × (r ≡ Err TooLong)) → IsReading input r
+    either (inl short) =
+        let as_many : length text ≡ length bytes = ap (λ (l : List ℕ). length l) same in
+        let whole : input ≡ text = read_all a b input bytes told taken end (omega (arith, short, as_many)) ∙ sym same in
+        let R : List ℕ → Type 0 = λ l. IsReading l r in
+        subst R (sym whole) here
+    either (inr long) =
+        let as_many : length text ≡ length bytes = ap (λ (l : List ℕ). length l) same in
+        let R : Result Script ScriptFault → Type 0 = λ f. IsReading input f in
+        let over : IsTooLong input = omega (arith, no_longer a b input bytes told taken, as_many, long.0) in
+        subst R (sym long.1) (over, λ e. absurd (cc))
 
--- a stock of as many boxes covers it
-pub held_covers : (bytes : List ℕ) (script : Script) (kinds : List Kind) → Holds bytes script → 32 ≤ count_of kinds Prog → Covers script kinds
-unfolding first_script micro_of
-held_covers bytes script kinds h enough =
-    let C : Script → Type 0 = λ (s : Script). Covers s kinds in
-    let first : Script = first_script h.tree in
-    let few = count_by-le-length (λ (micro : MicroDef). ghosts.eq micro.kind Prog) (the_micro h.tree ∷ []) in
-    let within : wanted first Prog ≤ count_of kinds Prog = omega (arith, few, enough) in
-    subst C (sym h.means) (Covers-from_all first kinds (ap (λ b. b && true) (le-leb (wanted first Prog) (count_of kinds Prog) within)))
+-- the due status, or a fault of the sink or want of memory
+pub later_status : (status due : ℕ) → (status ≡ due) ⊎ ((status ≡ 5) ⊎ (status ≡ 6)) → (status ≡ due) ⊎ ((status ≡ 4) ⊎ ((status ≡ 5) ⊎ (status ≡ 6)))
+later_status status due (inl is) = inl is
+later_status status due (inr rest) = inr (inr rest)
+
+pub due_three : (status due : ℕ) → status ≡ 3 → (status ≡ due) ⊎ ((status ≡ 5) ⊎ (status ≡ 6)) → due ≡ 3
+due_three status due three (inl is) = sym is ∙ three
+due_three status due three (inr (inl five)) = absurd (omega (arith, three, five))
+due_three status due three (inr (inr six)) = absurd (omega (arith, three, six))
+
+pub not_memory : (fault : ScriptFault) → is_memory fault ≡ false → fault ≡ Memory → ⊥
+not_memory fault other is = let yes : is_memory fault ≡ true = ap is_memory is in absurd (cc)
 
 -- all of it was written
 pub answers_all : (due : ℕ) (text : List ℕ) (old new : Option (List ℕ)) → due < 4 → Appends old new text → Answers due text old new due

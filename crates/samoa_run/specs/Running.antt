@@ -27,13 +27,13 @@ abbrev pub next_ran : Script → List Ext → Ext → Ran
 next_ran script past ext = ran_of script past ((serial script past).states ext.node.0) ext
 
 -- its part of the report
-abbrev pub next_text : Script → List Ext → Ext → List ℕ
-next_text script past ext = comp_text script false (length past + 1) ext (next_ran script past ext)
+abbrev pub next_text : Script → Bool → List Ext → Ext → List ℕ
+next_text script calls past ext = comp_text script calls (length past + 1) ext (next_ran script past ext)
 
 -- the part of computations that are admitted after these, one after another
-unfoldable pub later_text : Script → List Ext → List Ext → List ℕ
-later_text script past [] = []
-later_text script past (ext ∷ exts) = next_text script past ext ++ later_text script (past ++ ext ∷ []) exts
+unfoldable pub later_text : Script → Bool → List Ext → List Ext → List ℕ
+later_text script calls past [] = []
+later_text script calls past (ext ∷ exts) = next_text script calls past ext ++ later_text script calls (past ++ ext ∷ []) exts
 
 -- the entries were counted
 pub record Counts (entries : List Entry) (before after : Totals) : Type 0 where

@@ -1,10 +1,14 @@
 -- What a call of `serve` answers and writes.
-use Rattle.std.specs.Prelude.{ℕ, ◌≡◌, ◌≤◌, ◌⊎◌, List, [], Option, Result, IsErrOf}
-use Rattle.std.specs.Io.KnownBytes.{Appends}
+use Rattle.std.specs.Prelude.{ℕ, ◌≡◌, ◌≤◌, ◌⊎◌, true, false, List, [], length, Option, Some, Result, IsErrOf}
+use Rattle.std.specs.Io.KnownBytes.{Appends, IsAtEnd}
 use Rattle.samoa_ends.specs.Causes.{Rose}
 use Rattle.samoa_ends.specs.Pieces.{AppendsPrefix}
 use Rattle.samoa_model.specs.declared.script.Script.{Script}
-use Rattle.samoa_script.specs.First.{Holds}
+use Rattle.samoa_grammar.specs.Held.{Holds}
+use Rattle.samoa_script.specs.declared.fault.ScriptFault.{ScriptFault}
+use Rattle.samoa_run.specs.Readings.{IsFaultOf}
+use Rattle.samoa_run.specs.declared.words.Order.{Order}
+use Rattle.samoa_run.specs.Due.{can_do, output, not_yet_line, fault_line}
 use Rattle.samoa_run.specs.declared.stop.Stop.{Stop}
 use Rattle.samoa_run.specs.declared.stop.Stop.TheVariants.{Failed}
 
@@ -21,6 +25,42 @@ pub record Answers (due : ℕ) (text : List ℕ) (old new : Option (List ℕ)) (
   pub source_failed : status ≡ 4 → Appends old new []
   pub no_other : (status ≡ due) ⊎ ((status ≡ 4) ⊎ ((status ≡ 5) ⊎ (status ≡ 6)))
 
--- the bytes hold no script
-abbrev pub HoldsNone : List ℕ → Type 0
-HoldsNone bytes = (script : Script) → Holds bytes script → ⊥
+-- an input that is refused: it has a fault, or what it holds can't be done yet
+pub data IsRefused (order : Order) (input : List ℕ) : Type 0 where
+  faulty : (fault : ScriptFault) → IsFaultOf input fault → IsRefused order input
+  not_yet : (script : Script) → Holds input script → can_do order script ≡ false → IsRefused order input
+
+-- an end of the work: what source and sink tell before and after, and their counts of faults
+pub record Ends : Type 0 where
+  pub left : Option (List ℕ)
+  pub left_after : Option (List ℕ)
+  pub source_faults : ℕ
+  pub source_faults_after : ℕ
+  pub written : Option (List ℕ)
+  pub written_after : Option (List ℕ)
+  pub sink_faults : ℕ
+  pub sink_faults_after : ℕ
+
+-- no count of faults rose
+pub record NoFault (ends : Ends) : Type 0 where
+  pub source : ¬ Rose ends.source_faults ends.source_faults_after
+  pub sink : ¬ Rose ends.sink_faults ends.sink_faults_after
+
+-- an order was carried out with this status
+pub record Obeys (order : Order) (ends : Ends) (status : ℕ) : Type 0 where
+  pub done : (input : List ℕ) (script : Script) → ends.left ≡ Some input → Holds input script → can_do order script ≡ true
+      → Answers 0 (output order script) ends.written ends.written_after status
+  pub not_yet : (input : List ℕ) (script : Script) → ends.left ≡ Some input → Holds input script → can_do order script ≡ false
+      → Answers 3 not_yet_line ends.written ends.written_after status
+  pub refused : (input : List ℕ) (fault : ScriptFault) → ends.left ≡ Some input → IsFaultOf input fault
+      → Answers 3 (fault_line fault) ends.written ends.written_after status
+  pub refused_only : (input : List ℕ) → ends.left ≡ Some input → status ≡ 3 → IsRefused order input
+  pub complete : (input : List ℕ) (script : Script) → ends.left ≡ Some input → Holds input script → can_do order script ≡ true
+      → NoFault ends → (status ≡ 0) ⊎ (status ≡ 6)
+  pub complete_refused : (input : List ℕ) → ends.left ≡ Some input → IsRefused order input
+      → NoFault ends → (status ≡ 3) ⊎ (status ≡ 6)
+  pub read : status ≡ 0 → IsAtEnd ends.left_after
+  pub refused_read : (input : List ℕ) → ends.left ≡ Some input → length input ≤ 1048576 → status ≡ 3 → IsAtEnd ends.left_after
+  pub source_failed : status ≡ 4 → Rose ends.source_faults ends.source_faults_after
+  pub sink_failed : status ≡ 5 → Rose ends.sink_faults ends.sink_faults_after
+  pub statuses : (status ≡ 0) ⊎ (status ≡ 3) ⊎ (status ≡ 4) ⊎ (status ≡ 5) ⊎ (status ≡ 6)

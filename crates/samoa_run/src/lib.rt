@@ -1,8 +1,12 @@
 //! The top call: from the words of the command line and the bytes of the input to the report and the status.
 #![tactic(auto)]
 
+mod answer;
+mod fault;
 mod gate;
+mod obey;
 mod reading;
+mod ready;
 mod report;
 mod running;
 mod schedule;
@@ -15,4 +19,5 @@ mod writing;
 
 pub use gate::{Gate, NoGate};
 pub use reading::LIMIT;
-pub use top::serve;
+pub use ready::built;
+pub use top::{check_only, serve, serve_serial};

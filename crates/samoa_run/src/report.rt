@@ -1,5 +1,5 @@
 //! The run of a script, and its report.
-ghost use Rattle.std.specs.Prelude.{◌≡◌, ◌<◌, ◌≤◌, ◌+◌, ◌++◌, ◌∷◌, [], false, length, map, All, IfOk, OnOk, OnErr};
+ghost use Rattle.std.specs.Prelude.{◌≡◌, ◌<◌, ◌≤◌, ◌+◌, ◌++◌, ◌∷◌, [], length, map, All, IfOk, OnOk, OnErr};
 ghost use Rattle.std.specs.Io.KnownBytes.{Appends};
 ghost use Rattle.samoa_model.specs.Range.{IsInRange, IsBuilt, IsExtOf};
 ghost use Rattle.samoa_serial.specs.History.{ext_of, history};
@@ -54,17 +54,30 @@ impl<B: Micro> Run<B> {
 
     /// Runs one computation more, and makes its part of the report the text at hand. Where there was no memory, the
     /// run is of no further use.
-    fn compute(&mut self, alloc: Global, script: &Script, ext: Ext) -> Result<(), NoMemory>
+    fn compute(
+        &mut self,
+        alloc: Global,
+        script: &Script,
+        calls: bool,
+        ext: Ext,
+    ) -> Result<(), NoMemory>
         requires in_range { IsInRange script.now }
         requires named { IsExtOf script.now ext }
         requires few { length self.old.core.past < 100000 }
         requires has_run { HasRun script.now self.old.core.past self.old.core self.old.totals }
-        ensures text { OnOk result (self.new.text.items ≡ next_text script.now self.old.core.past ext) }
+        ensures text { OnOk result (self.new.text.items ≡ next_text script.now calls self.old.core.past ext) }
         ensures has_run { OnOk result (HasRun script.now (self.old.core.past ++ ext ∷ []) self.new.core self.new.totals) }
     {
         let comp = run_one(alloc, &mut self.core, ext)?;
         self.text.clear();
-        push_comp(script, &self.core, comp, &mut self.text, &mut self.totals)?;
+        push_comp(
+            script,
+            &self.core,
+            comp,
+            calls,
+            &mut self.text,
+            &mut self.totals,
+        )?;
         self.core.clear();
         self.totals.comps += 1;
         Ok(())
@@ -75,6 +88,7 @@ impl<B: Micro> Run<B> {
         &mut self,
         alloc: Global,
         script: &Script,
+        calls: bool,
         ext: Ext,
         sink: &mut K,
     ) -> Result<(), Stop>
@@ -82,12 +96,12 @@ impl<B: Micro> Run<B> {
         requires named { IsExtOf script.now ext }
         requires few { length self.old.core.past < 100000 }
         requires has_run { HasRun script.now self.old.core.past self.old.core self.old.totals }
-        ensures all { OnOk result (Appends (K.written sink.old) (K.written sink.new) (next_text script.now self.old.core.past ext)) }
-        ensures part { OnErr result (AppendsPrefix (K.written sink.old) (K.written sink.new) (next_text script.now self.old.core.past ext)) }
+        ensures all { OnOk result (Appends (K.written sink.old) (K.written sink.new) (next_text script.now calls self.old.core.past ext)) }
+        ensures part { OnErr result (AppendsPrefix (K.written sink.old) (K.written sink.new) (next_text script.now calls self.old.core.past ext)) }
         ensures cause { StopsFor (K.faults sink.old) (K.faults sink.new) result }
         ensures has_run { OnOk result (HasRun script.now (self.old.core.past ++ ext ∷ []) self.new.core self.new.totals) }
     {
-        self.compute(alloc, script, ext)?;
+        self.compute(alloc, script, calls, ext)?;
         write_lines(&self.text, sink)?;
         Ok(())
     }
@@ -97,6 +111,7 @@ impl<B: Micro> Run<B> {
         &mut self,
         alloc: Global,
         script: &Script,
+        calls: bool,
         items: &[DoDef],
         sink: &mut K,
     ) -> Result<(), Stop>
@@ -104,13 +119,13 @@ impl<B: Micro> Run<B> {
         requires named { All (IsExtOf script.now) (map ext_of items.now) }
         requires few { length self.old.core.past + length items.now ≤ 100000 }
         requires has_run { HasRun script.now self.old.core.past self.old.core self.old.totals }
-        ensures all { OnOk result (Appends (K.written sink.old) (K.written sink.new) (later_text script.now self.old.core.past (map ext_of items.now))) }
-        ensures part { OnErr result (AppendsPrefix (K.written sink.old) (K.written sink.new) (later_text script.now self.old.core.past (map ext_of items.now))) }
+        ensures all { OnOk result (Appends (K.written sink.old) (K.written sink.new) (later_text script.now calls self.old.core.past (map ext_of items.now))) }
+        ensures part { OnErr result (AppendsPrefix (K.written sink.old) (K.written sink.new) (later_text script.now calls self.old.core.past (map ext_of items.now))) }
         ensures cause { StopsFor (K.faults sink.old) (K.faults sink.new) result }
         ensures has_run { OnOk result (HasRun script.now (self.old.core.past ++ map ext_of items.now) self.new.core self.new.totals) }
     {
         for item in items {
-            self.write_one(alloc, script, ext_of(item), sink)?;
+            self.write_one(alloc, script, calls, ext_of(item), sink)?;
         }
         Ok(())
     }
@@ -120,21 +135,22 @@ impl<B: Micro> Run<B> {
         &mut self,
         alloc: Global,
         script: &Script,
+        calls: bool,
         items: &[DoDef],
         sink: &mut K,
     ) -> Result<(), Stop>
         requires in_range { IsInRange script.now }
         requires by_tick { IsByTick script.now.does items.now }
         requires has_run { HasRun script.now [] self.old.core self.old.totals }
-        ensures all { OnOk result (Appends (K.written sink.old) (K.written sink.new) (later_text script.now [] (history script.now))) }
-        ensures part { OnErr result (AppendsPrefix (K.written sink.old) (K.written sink.new) (later_text script.now [] (history script.now))) }
+        ensures all { OnOk result (Appends (K.written sink.old) (K.written sink.new) (later_text script.now calls [] (history script.now))) }
+        ensures part { OnErr result (AppendsPrefix (K.written sink.old) (K.written sink.new) (later_text script.now calls [] (history script.now))) }
         ensures cause { StopsFor (K.faults sink.old) (K.faults sink.new) result }
         ensures has_run { OnOk result (HasRun script.now (history script.now) self.new.core self.new.totals) }
     {
         let mut rest = items;
         for before in 0..script.ticks {
             let (batch, later) = rest.split_at(count_of_tick(rest, before + 1));
-            self.write_batch(alloc, script, batch, sink)?;
+            self.write_batch(alloc, script, calls, batch, sink)?;
             rest = later;
         }
         Ok(())
@@ -162,23 +178,24 @@ impl<B: Micro> Run<B> {
     }
 }
 
-/// Runs a script, and writes its report.
+/// Runs a script, and writes its report, with the lines of calls where `calls` is given.
 pub fn write_report<B: Micro, K: Sink>(
     alloc: Global,
     script: &Script,
     stock: Stock<B>,
+    calls: bool,
     sink: &mut K,
 ) -> Result<(), Stop>
     requires in_range { IsInRange script.now }
     requires built { IsBuilt script.now }
     requires covers { Covers script.now stock }
-    ensures all { OnOk result (Appends (K.written sink.old) (K.written sink.new) (report script.now false)) }
-    ensures part { OnErr result (AppendsPrefix (K.written sink.old) (K.written sink.new) (report script.now false)) }
+    ensures all { OnOk result (Appends (K.written sink.old) (K.written sink.new) (report script.now calls)) }
+    ensures part { OnErr result (AppendsPrefix (K.written sink.old) (K.written sink.new) (report script.now calls)) }
     ensures cause { StopsFor (K.faults sink.old) (K.faults sink.new) result }
 {
     let items = by_tick(alloc, script)?;
     let mut run = Run::new(alloc, script, stock)?;
-    run.write_history(alloc, script, &items, sink)?;
+    run.write_history(alloc, script, calls, &items, sink)?;
     run.write_end(script, sink)
 }
 

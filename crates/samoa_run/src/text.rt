@@ -1,5 +1,5 @@
 //! Parts of the report, as a text in memory.
-ghost use Rattle.std.specs.Prelude.{◌≡◌, ◌+◌, ◌-◌, ◌<◌, ◌≤◌, ◌^◌, ◌++◌, false, length, None, Some, OnOk, slice_get};
+ghost use Rattle.std.specs.Prelude.{◌≡◌, ◌+◌, ◌-◌, ◌<◌, ◌≤◌, ◌^◌, ◌++◌, length, None, Some, OnOk, slice_get};
 ghost use Rattle.samoa_model.specs.declared.record.Ext.{Ext};
 ghost use Rattle.samoa_serial.specs.Report.{comp_text, entries_text, node_text, states_text};
 ghost use Rattle.samoa_core.specs.Course.{away, ended_at, states_of};
@@ -12,11 +12,13 @@ use samoa_model::{MicroId, NoMemory, NodeId, Script};
 use samoa_report::{end_line, entry_line, ext_line, state_line};
 
 /// Appends the lines of a computation that has ended and wasn't cleared away, and counts its deliveries and refusals.
+/// The lines of calls are among them where `calls` is given.
 /// Where there was no memory, some lines may be missing, and some may be counted.
 pub fn push_comp<B: Micro>(
     script: &Script,
     core: &Core<B>,
     comp: u32,
+    calls: bool,
     text: &mut Vec<u8>,
     totals: &mut Totals,
 ) -> Result<(), NoMemory>
@@ -25,12 +27,12 @@ pub fn push_comp<B: Micro>(
     requires deliveries { totals.old.deliveries + length (ended_at core.now comp).world.entries < 2 ^ 64 }
     requires refusals { totals.old.refusals + length (ended_at core.now comp).world.entries < 2 ^ 64 }
     ensures text { OnOk result ((ext : Ext) → slice_get core.now.past (comp - 1) ≡ Some ext
-        → text.new.items ≡ text.old.items ++ comp_text script.now false comp ext (ended_at core.now comp)) }
+        → text.new.items ≡ text.old.items ++ comp_text script.now calls comp ext (ended_at core.now comp)) }
     ensures totals { OnOk result (Counts (ended_at core.now comp).world.entries totals.old totals.new) }
 {
     let ext = core.ext(comp);
     ext_line(script, comp, &ext, text)?;
-    push_entries(script, core, comp, text, totals)?;
+    push_entries(script, core, comp, calls, text, totals)?;
     let ending = core.ending(comp);
     end_line(comp, &ending, text)
 }
@@ -40,6 +42,7 @@ fn push_entries<B: Micro>(
     script: &Script,
     core: &Core<B>,
     comp: u32,
+    calls: bool,
     text: &mut Vec<u8>,
     totals: &mut Totals,
 ) -> Result<(), NoMemory>
@@ -47,12 +50,12 @@ fn push_entries<B: Micro>(
     requires ended { comp ≤ length core.now.past }
     requires deliveries { totals.old.deliveries + length (ended_at core.now comp).world.entries < 2 ^ 64 }
     requires refusals { totals.old.refusals + length (ended_at core.now comp).world.entries < 2 ^ 64 }
-    ensures text { OnOk result (text.new.items ≡ text.old.items ++ entries_text script.now comp false (ended_at core.now comp).world.entries) }
+    ensures text { OnOk result (text.new.items ≡ text.old.items ++ entries_text script.now comp calls (ended_at core.now comp).world.entries) }
     ensures totals { OnOk result (Counts (ended_at core.now comp).world.entries totals.old totals.new) }
 {
     let mut at = 0;
     while let Some(entry) = core.entry(comp, at) {
-        entry_line(script, comp, &entry, false, text)?;
+        entry_line(script, comp, &entry, calls, text)?;
         totals.count(&entry);
         at += 1;
     }

@@ -1,43 +1,48 @@
 //! The top call.
-ghost use Rattle.std.specs.Prelude.{◌≡◌, ◌≢◌, ◌⊎◌, ◌<◌, ◌≤◌, ℕ, List, false, length, map, codes, string_bytes, Some};
+ghost use Rattle.std.specs.Prelude.{◌≡◌, ◌≢◌, ◌⊎◌, ◌<◌, ◌≤◌, ℕ, List, Bool, None, true, length, map, codes, string_bytes, Some, option_and_then};
 ghost use Rattle.std.specs.Io.KnownBytes.{IsAtEnd};
 ghost use Rattle.samoa_model.specs.declared.script.Script.{Script as ScriptValue};
 ghost use Rattle.samoa_model.specs.declared.setup.Kind.TheVariants.{Prog};
 ghost use Rattle.samoa_serial.specs.Report.{report};
 ghost use Rattle.samoa_ends.specs.Causes.{Rose};
-ghost use Rattle.samoa_script.specs.First.{Holds};
+ghost use Rattle.samoa_grammar.specs.Held.{Holds};
 ghost use Rattle.samoa_micro.specs.Covers.{count_of};
-ghost use Rattle.samoa_run.specs.Serving.{Answers, HoldsNone};
-ghost use Rattle.samoa_run.specs.Words.{AreRun};
+ghost use Rattle.samoa_run.specs.declared.words.Order.{Order as OrderValue};
+ghost use Rattle.samoa_run.specs.Built.{is_built};
+ghost use Rattle.samoa_run.specs.Serving.{Answers, Obeys};
+ghost use Rattle.samoa_run.specs.Words.{order_in as order_of, check_only as only_check, serial_only as only_serial};
 
+use crate::answer::write_text;
 use crate::gate::Gate;
-use crate::reading::{LIMIT, read_input};
-use crate::report::write_report;
-use crate::stop::Stop;
-use crate::words::are_run;
-use crate::writing::write_lines;
-use samoa_ends::{Failed, Sink, Source};
+use crate::obey::obey;
+use crate::words::{Order, order_in};
+use samoa_ends::{Sink, Source};
 use samoa_micro::{Micro, Stock};
-use samoa_script::{FirstFault, read_first};
 use std::alloc::Global;
 use std::marker::Send;
 use std::sync::Wait;
 use std::thread::Threads;
 
-/// Does what the words ask for, and answers the status. The only words are `run` alone: the source is read to its end,
-/// or to one byte past 1,048,576, and where the bytes hold a script of the first form, its report is written to the
-/// sink.
+/// Does what the words ask for, and answers the status.
+///
+/// | Words | What is done |
+/// |---|---|
+/// | `run [--calls]` | reads a script, runs it, and writes its report, with the lines of calls where asked |
+/// | `serial [--calls]` | the same, one computation after another on one thread |
+/// | `check` | reads a script, and writes its canonical text and a line feed |
+///
+/// The source is read to its end, or to one byte past 1,048,576.
 ///
 /// | Status | Comes | What is written |
 /// |---|---|---|
-/// | 0 | all was done and written | the report |
+/// | 0 | all was done and written | the report, or the text |
 /// | 2 | the words are others | `! usage` |
-/// | 3 | the bytes hold no script of the first form | `! script NotFirst` |
+/// | 3 | the input has a fault, or can't run yet | the fault line |
 /// | 4 | a read failed | nothing |
 /// | 5 | a write failed | a prefix of what was to be written |
-/// | 6 | there was no memory | a prefix of the report |
+/// | 6 | there was no memory | a prefix of what was to be written |
 ///
-/// The sink is given the rest of one line at a time. For now the work is done on one thread, and no gate is called.
+/// The sink is given the rest of one line at a time. For now `run` works on one thread, and no gate is called.
 pub fn serve<R: Wait + Threads + Sync, S: Source, K: Sink, G: Gate + Sync, B: Micro + Send>(
     _rt: &R,
     alloc: Global,
@@ -49,72 +54,91 @@ pub fn serve<R: Wait + Threads + Sync, S: Source, K: Sink, G: Gate + Sync, B: Mi
 ) -> u8
     requires { 32 ≤ count_of stock Prog }
 
-    // The words are right, and the input holds a script: its report.
-    ensures report { (input : List ℕ) (script : ScriptValue) → AreRun (map string_bytes words.now)
-        → S.left source.old ≡ Some input → Holds input script
-        → Answers 0 (report script false) (K.written sink.old) (K.written sink.new) result }
+    // The headline: the words ask for a run, and the input holds a script that can run. What is written is a prefix of
+    // the report of running its events whole, one after another, and at status 0 all of it.
+    ensures report { (input : List ℕ) (script : ScriptValue) (calls : Bool) → order_of (map string_bytes words.now) ≡ Some (OrderValue.Run calls)
+        → S.left source.old ≡ Some input → Holds input script → is_built script ≡ true
+        → Answers 0 (report script calls) (K.written sink.old) (K.written sink.new) result }
 
-    // The words are right, and the input holds no script: the fault line.
-    ensures refused { (input : List ℕ) → AreRun (map string_bytes words.now)
-        → S.left source.old ≡ Some input → HoldsNone input
-        → Answers 3 (codes "! script NotFirst\n") (K.written sink.old) (K.written sink.new) result }
-    ensures refused_only { (input : List ℕ) → S.left source.old ≡ Some input → result ≡ 3 → HoldsNone input }
+    // The words give an order, and it is carried out.
+    ensures obeys { (order : OrderValue) → order_of (map string_bytes words.now) ≡ Some order → Obeys order
+        (record { left = S.left source.old; left_after = S.left source.new; source_faults = S.faults source.old; source_faults_after = S.faults source.new; written = K.written sink.old; written_after = K.written sink.new; sink_faults = K.faults sink.old; sink_faults_after = K.faults sink.new })
+        result }
 
     // The words are others: the fault line, nothing is read, and no memory is taken.
-    ensures usage { ¬ AreRun (map string_bytes words.now)
+    ensures usage { order_of (map string_bytes words.now) ≡ None
         → Answers 2 (codes "! usage\n") (K.written sink.old) (K.written sink.new) result }
-    ensures usage_only { result ≡ 2 → ¬ AreRun (map string_bytes words.now) }
-    ensures untouched { ¬ AreRun (map string_bytes words.now)
-        → (result ≢ 4) × (result ≢ 6) × (source.new ≡ source.old) }
-
-    // Where no count rose, all is written or there was no memory.
-    ensures complete { (input : List ℕ) (script : ScriptValue) → AreRun (map string_bytes words.now)
-        → S.left source.old ≡ Some input → Holds input script
-        → ¬ Rose (S.faults source.old) (S.faults source.new) → ¬ Rose (K.faults sink.old) (K.faults sink.new)
-        → (result ≡ 0) ⊎ (result ≡ 6) }
-    ensures complete_refused { (input : List ℕ) → AreRun (map string_bytes words.now)
-        → S.left source.old ≡ Some input → HoldsNone input
-        → ¬ Rose (S.faults source.old) (S.faults source.new) → ¬ Rose (K.faults sink.old) (K.faults sink.new)
-        → (result ≡ 3) ⊎ (result ≡ 6) }
-
-    // The input was read to its end, unless it is too long.
-    ensures read { result ≡ 0 → IsAtEnd (S.left source.new) }
-    ensures refused_read { (input : List ℕ) → S.left source.old ≡ Some input → length input ≤ LIMIT
-        → result ≡ 3 → IsAtEnd (S.left source.new) }
-
-    ensures source_failed { result ≡ 4 → Rose (S.faults source.old) (S.faults source.new) }
+    ensures untouched { order_of (map string_bytes words.now) ≡ None
+        → ((result ≡ 2) ⊎ (result ≡ 5)) × (source.new ≡ source.old) }
+    ensures usage_only { result ≡ 2 → order_of (map string_bytes words.now) ≡ None }
     ensures sink_failed { result ≡ 5 → Rose (K.faults sink.old) (K.faults sink.new) }
-    ensures statuses { (result ≡ 0) ⊎ (result ≡ 2) ⊎ (result ≡ 3) ⊎ (result ≡ 4) ⊎ (result ≡ 5) ⊎ (result ≡ 6) }
 {
-    if !are_run(words) {
-        return write_fault(b"! usage\n", 2, sink);
-    }
-    let bytes = match read_input(alloc, source) {
-        Ok(bytes) => bytes,
-        Err(Stop::Failed) => return 4,
-        Err(Stop::Memory) => return 6,
-    };
-    let script = match read_first(alloc, &bytes) {
-        Ok(script) => script,
-        Err(FirstFault::NotFirst) => return write_fault(b"! script NotFirst\n", 3, sink),
-        Err(FirstFault::Memory) => return 6,
-    };
-    match write_report(alloc, &script, stock, sink) {
-        Ok(()) => 0,
-        Err(Stop::Failed) => 5,
-        Err(Stop::Memory) => 6,
+    match order_in(words) {
+        Some(Order::Run { calls }) => { obey(alloc, Order::Run { calls }, source, sink, stock) }
+        Some(Order::Serial { .. }) => serve_serial(alloc, words, source, sink, stock),
+        Some(Order::Check) => check_only(alloc, words, source, sink, stock),
+        None => write_text(b"! usage\n", 2, sink),
     }
 }
 
-/// Writes a fault line, and answers its status, or 5.
-fn write_fault<K: Sink>(line: &[u8], status: u8, sink: &mut K) -> u8
-    requires { status < 4 }
-    ensures written { Answers status line.now (K.written sink.old) (K.written sink.new) result }
-    ensures statuses { (result ≡ status) ⊎ (result ≡ 5) }
+/// Carries out `serial [--calls]`, and waits for nobody. All other words are status 2. The statuses are those of
+/// [`serve`].
+pub fn serve_serial<S: Source, K: Sink, B: Micro>(
+    alloc: Global,
+    words: &[String],
+    source: &mut S,
+    sink: &mut K,
+    stock: Stock<B>,
+) -> u8
+    requires { 32 ≤ count_of stock Prog }
+
+    // The words ask for a serial run, and the input holds a script that can run.
+    ensures report { (input : List ℕ) (script : ScriptValue) (calls : Bool) → order_of (map string_bytes words.now) ≡ Some (OrderValue.Serial calls)
+        → S.left source.old ≡ Some input → Holds input script → is_built script ≡ true
+        → Answers 0 (report script calls) (K.written sink.old) (K.written sink.new) result }
+
+    ensures obeys { (order : OrderValue) → option_and_then only_serial (order_of (map string_bytes words.now)) ≡ Some order → Obeys order
+        (record { left = S.left source.old; left_after = S.left source.new; source_faults = S.faults source.old; source_faults_after = S.faults source.new; written = K.written sink.old; written_after = K.written sink.new; sink_faults = K.faults sink.old; sink_faults_after = K.faults sink.new })
+        result }
+
+    ensures usage { option_and_then only_serial (order_of (map string_bytes words.now)) ≡ None
+        → Answers 2 (codes "! usage\n") (K.written sink.old) (K.written sink.new) result }
+    ensures untouched { option_and_then only_serial (order_of (map string_bytes words.now)) ≡ None
+        → ((result ≡ 2) ⊎ (result ≡ 5)) × (source.new ≡ source.old) }
+    ensures usage_only { result ≡ 2 → option_and_then only_serial (order_of (map string_bytes words.now)) ≡ None }
     ensures sink_failed { result ≡ 5 → Rose (K.faults sink.old) (K.faults sink.new) }
 {
-    match write_lines(line, sink) {
-        Ok(()) => status,
-        Err(Failed) => 5,
+    match order_in(words) {
+        Some(Order::Serial { calls }) => {
+            obey(alloc, Order::Serial { calls }, source, sink, stock)
+        }
+        _ => write_text(b"! usage\n", 2, sink),
+    }
+}
+
+/// Carries out `check`, and waits for nobody. All other words are status 2. The statuses are those of [`serve`].
+pub fn check_only<S: Source, K: Sink, B: Micro>(
+    alloc: Global,
+    words: &[String],
+    source: &mut S,
+    sink: &mut K,
+    stock: Stock<B>,
+) -> u8
+    requires { 32 ≤ count_of stock Prog }
+
+    ensures obeys { (order : OrderValue) → option_and_then only_check (order_of (map string_bytes words.now)) ≡ Some order → Obeys order
+        (record { left = S.left source.old; left_after = S.left source.new; source_faults = S.faults source.old; source_faults_after = S.faults source.new; written = K.written sink.old; written_after = K.written sink.new; sink_faults = K.faults sink.old; sink_faults_after = K.faults sink.new })
+        result }
+
+    ensures usage { option_and_then only_check (order_of (map string_bytes words.now)) ≡ None
+        → Answers 2 (codes "! usage\n") (K.written sink.old) (K.written sink.new) result }
+    ensures untouched { option_and_then only_check (order_of (map string_bytes words.now)) ≡ None
+        → ((result ≡ 2) ⊎ (result ≡ 5)) × (source.new ≡ source.old) }
+    ensures usage_only { result ≡ 2 → option_and_then only_check (order_of (map string_bytes words.now)) ≡ None }
+    ensures sink_failed { result ≡ 5 → Rose (K.faults sink.old) (K.faults sink.new) }
+{
+    match order_in(words) {
+        Some(Order::Check) => obey(alloc, Order::Check, source, sink, stock),
+        _ => write_text(b"! usage\n", 2, sink),
     }
 }

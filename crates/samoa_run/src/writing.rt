@@ -4,6 +4,7 @@ ghost use Rattle.std.specs.Io.KnownBytes.{Appends};
 ghost use Rattle.samoa_ends.specs.Causes.{HasCause};
 ghost use Rattle.samoa_ends.specs.Pieces.{AppendsPrefix};
 
+use memchr::memchr;
 use samoa_ends::{Failed, Sink};
 
 /// Writes the text. Each write is given the rest of one line.
@@ -26,7 +27,7 @@ fn line_len(text: &[u8]) -> usize
     ensures some { 0 < result }
     ensures most { result ≤ length text.now }
 {
-    match text.iter().position(|byte| *byte == b'\n') {
+    match memchr(b'\n', text) {
         Some(at) => at + 1,
         None => text.len(),
     }

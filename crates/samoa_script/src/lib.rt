@@ -1,14 +1,14 @@
-//! Reads a script of the first form: one node, and one scripted microprotocol with one declaration and one event.
+//! Scripts and their texts: bytes to the one script that they hold, or to their one fault, and a script to its canonical
+//! text.
 #![tactic(auto)]
 
-mod code;
 mod fault;
-mod listing;
-mod objects;
 mod reading;
 #[cfg(test)]
 mod tests;
-mod tree;
 
-pub use fault::FirstFault;
-pub use reading::{held_limits, one_script, read_first};
+pub use fault::ScriptFault;
+pub use reading::{one_answer, read_script, some_answer, whole_limits};
+pub use samoa_model::Script;
+pub use samoa_names::EventNames;
+pub use samoa_print::{need, print_script, printed_again};

@@ -1,127 +1,79 @@
-//! Bytes to a script of the first form.
-ghost use Rattle.std.specs.Prelude.{◌≡◌, ℕ, List, ◌≤◌, ◌∷◌, [], length, true, map, IfOk, IfErr, Err};
-ghost use Rattle.std.specs.List.{list_all};
+//! Bytes to a script.
+ghost use Rattle.std.specs.Prelude.{◌≡◌, ◌⊎◌, ℕ, List, IfOk, IfErr};
+ghost use Rattle.std.specs.List.{All};
 ghost use Rattle.serde_json.specs.View.{view};
 ghost use Rattle.samoa_model.specs.declared.script.Script.{Script as ScriptValue};
-ghost use Rattle.samoa_model.specs.Range.{IsInRange, IsBuilt};
-ghost use Rattle.samoa_script.specs.Tree.{list_of, is_list_within};
-ghost use Rattle.samoa_script.specs.Reads.{Reads, ReadsVec};
-ghost use Rattle.samoa_script.specs.First.{is_micro, micro_of, is_do, do_of, is_first, first_script, Holds, HasShortCodes};
+ghost use Rattle.samoa_model.specs.Range.{IsInRange};
+ghost use Rattle.samoa_grammar.specs.Held.{walk_fault, script_meant, Holds};
+ghost use Rattle.samoa_form.specs.Reads.{Reads};
+ghost use Rattle.samoa_naming.specs.Sound.{HasShortCodes, HasPositions, HasPorts, HasFewOfEach, HasDecls, IsLossOf, IsCrashOf};
+ghost use Rattle.samoa_script.specs.declared.fault.ScriptFault.{ScriptFault as FaultValue};
+ghost use Rattle.samoa_script.specs.Fails.{Fails, HasScript, HasFault};
 
-use crate::fault::FirstFault;
-use crate::listing::Item;
-use crate::objects::{decl, do_item, event};
-use crate::tree::{has_only_keys, items, number_within, one, part};
-use samoa_model::{DoDef, Listed, MicroDef, Name, Script};
+use crate::fault::{ScriptFault, fault_of};
+use samoa_form::{Stop, read_form};
+use samoa_model::Script;
+use samoa_naming::{check_names, resolve};
 use serde_json::{Category, Value};
 use std::alloc::Global;
 
 const MOST_BYTES: usize = 1_048_576;
 
-fn micro(alloc: Global, value: &Value) -> Result<MicroDef, FirstFault>
-    ensures reads { Reads result (is_micro (view value.now)) (micro_of (view value.now)) }
-    ensures limit { IfOk result (λ m. length m.handlers ≤ 16) }
+#[tactic(auto, unfolding(samoa_grammar::specs::Held::walk_fault, samoa_grammar::specs::Held::script_meant))]
+fn script(alloc: Global, value: &Value) -> Result<Script, Stop>
+    ensures { Reads result (walk_fault (view value.now)) (script_meant (view value.now)) }
 {
-    Item::read(alloc, value)
+    let draft = read_form(alloc, value)?;
+    check_names(alloc, &draft)?;
+    Ok(resolve(alloc, &draft)?)
 }
 
-fn does(alloc: Global, ticks: u32, event: &Name, value: &Value) -> Result<Listed<DoDef>, FirstFault>
-    ensures { Reads result (is_list_within 8192 (is_do ticks event.now) (view value.now)) (map do_of (list_of (view value.now))) }
-{
-    let list = items(value)?;
-    if list.len() > 8192 {
-        return Err(FirstFault::NotFirst);
-    }
-    Ok(Listed::from_vec(each_do(alloc, ticks, event, list)?))
-}
-
-#[tactic(auto, using(crate::proofs::Lists::refused_at))]
-fn each_do(
-    alloc: Global,
-    ticks: u32,
-    event: &Name,
-    list: &[Value],
-) -> Result<Vec<DoDef>, FirstFault>
-    ensures { ReadsVec result (list_all (is_do ticks event.now) (map view list.now)) (map do_of (map view list.now)) }
-{
-    let mut found = Vec::new(alloc);
-    for item in list {
-        found.push(do_item(ticks, event, item)?)?;
-    }
-    Ok(found)
-}
-
-fn one_of<T: Drop>(alloc: Global, item: T) -> Result<Listed<T>, FirstFault>
-    ensures ok { IfOk result (λ l. l ≡ item ∷ []) }
-    ensures err { IfErr result (λ e. e ≡ FirstFault.Memory) }
-{
-    let mut items = Vec::new(alloc);
-    items.push(item)?;
-    Ok(Listed::from_vec(items))
-}
-
-#[tactic(auto, unfolding(crate::specs::First::is_first, crate::specs::First::first_script))]
-fn script(alloc: Global, value: &Value) -> Result<Script, FirstFault>
-    ensures { Reads result (is_first (view value.now)) (first_script (view value.now)) }
-{
-    if !has_only_keys(
-        value,
-        &[
-            "version", "nodes", "ticks", "micros", "decls", "events", "do",
-        ],
-    ) {
-        return Err(FirstFault::NotFirst);
-    }
-    number_within(part(value, "version")?, 1, 1)?;
-    number_within(part(value, "nodes")?, 1, 1)?;
-    let ticks = number_within(part(value, "ticks")?, 1, 10_000)?;
-    let micro = micro(alloc, one(part(value, "micros")?)?)?;
-    let decl = decl(alloc, &micro.name, one(part(value, "decls")?)?)?;
-    let event = event(alloc, &micro, &decl.name, one(part(value, "events")?)?)?;
-    let does = does(alloc, ticks, &event.name, part(value, "do")?)?;
-    Ok(Script {
-        nodes: 1,
-        ticks,
-        micros: one_of(alloc, micro)?,
-        decls: one_of(alloc, decl)?,
-        events: one_of(alloc, event)?,
-        changes: Listed::from_vec(Vec::new(alloc)),
-        does,
-        losses: Listed::from_vec(Vec::new(alloc)),
-        crashes: Listed::from_vec(Vec::new(alloc)),
-    })
-}
-
-/// The script of the first form that the bytes hold. A text with a key twice in one object is read by its last.
+/// The script that the bytes hold. A text with a key twice in one object is read by its last.
 ///
-/// `NotFirst` comes for more than 1,048,576 bytes, for what is no JSON text, and for a text of another form.
-pub fn read_first(alloc: Global, bytes: &[u8]) -> Result<Script, FirstFault>
+/// `TooLong` comes for more than 1,048,576 bytes, `NotJson` for what is no JSON text, and otherwise the first fault of
+/// the walk over the text's tree. `Memory` comes where there was none.
+pub fn read_script(alloc: Global, bytes: &[u8]) -> Result<Script, ScriptFault>
     ensures ok { IfOk result (Holds bytes.now) }
-    ensures not_first { result ≡ Err FirstFault.NotFirst → (s : ScriptValue) → Holds bytes.now s → ⊥ }
+    ensures fault { IfErr result (Fails bytes.now) }
     ensures in_range { IfOk result IsInRange }
-    ensures built { IfOk result IsBuilt }
+    ensures short { IfOk result HasShortCodes }
 {
     if bytes.len() > MOST_BYTES {
-        return Err(FirstFault::NotFirst);
+        return Err(ScriptFault::TooLong);
     }
     match Value::from_slice(alloc, bytes) {
-        Ok(value) => script(alloc, &value),
+        Ok(value) => match script(alloc, &value) {
+            Ok(script) => Ok(script),
+            Err(stop) => Err(fault_of(stop)),
+        },
         Err(e) => Err(match e.classify() {
-            Category::Memory => FirstFault::Memory,
-            _ => FirstFault::NotFirst,
+            Category::Memory => ScriptFault::Memory,
+            _ => ScriptFault::NotJson,
         }),
     }
 }
 
-/// Bytes hold at most one script.
-pub fn one_script()
-    ensures { (bytes : List ℕ) (s t : ScriptValue) → Holds bytes s → Holds bytes t → s ≡ t }
+/// Bytes hold at most one script, none beside a fault, and have at most one fault.
+pub fn one_answer()
+    ensures scripts { (bytes : List ℕ) (s t : ScriptValue) → Holds bytes s → Holds bytes t → s ≡ t }
+    ensures apart { (bytes : List ℕ) (s : ScriptValue) (f : FaultValue) → Holds bytes s → Fails bytes f → f ≡ ScriptFault.Memory }
+    ensures faults { (bytes : List ℕ) (f g : FaultValue) → Fails bytes f → Fails bytes g → (f ≡ ScriptFault.Memory → ⊥) → (g ≡ ScriptFault.Memory → ⊥) → f ≡ g }
 {}
 
-/// What a script that bytes hold keeps to: its numbers name what is there, it can run, and a handler has at most 32
-/// instructions.
-pub fn held_limits()
+/// Each list of bytes holds a script or has a fault of its own.
+pub fn some_answer()
+    ensures { (bytes : List ℕ) → HasScript bytes ⊎ HasFault bytes }
+{}
+
+/// What a script keeps to that bytes hold: it is in range, its handlers are short, each instruction's position is there,
+/// each kind has its ports and is few, and what its declarations, losses and crashes name is there.
+pub fn whole_limits()
     ensures in_range { (bytes : List ℕ) (script : ScriptValue) → Holds bytes script → IsInRange script }
-    ensures built { (bytes : List ℕ) (script : ScriptValue) → Holds bytes script → IsBuilt script }
     ensures short { (bytes : List ℕ) (script : ScriptValue) → Holds bytes script → HasShortCodes script }
+    ensures positions { (bytes : List ℕ) (script : ScriptValue) → Holds bytes script → HasPositions script }
+    ensures ports { (bytes : List ℕ) (script : ScriptValue) → Holds bytes script → HasPorts script }
+    ensures kinds { (bytes : List ℕ) (script : ScriptValue) → Holds bytes script → HasFewOfEach script }
+    ensures decls { (bytes : List ℕ) (script : ScriptValue) → Holds bytes script → HasDecls script }
+    ensures losses { (bytes : List ℕ) (script : ScriptValue) → Holds bytes script → All (IsLossOf script) script.losses }
+    ensures crashes { (bytes : List ℕ) (script : ScriptValue) → Holds bytes script → All (IsCrashOf script) script.crashes }
 {}

@@ -1,251 +1,181 @@
-use crate::{FirstFault, read_first};
-use samoa_model::{Cause, Decl, EventId, HandlerId, Instr, Kind, MicroId, NodeId, Place};
-use std::alloc::Global;
+use crate::{ScriptFault, read_script};
+use samoa_model::{Decl, HandlerId, MicroId};
+use std::alloc::{AllocError, Global};
 use std::test::Fail;
 
-const ONE: &str =
-    r#"{"version":1,"nodes":1,"ticks":1,"micros":[{"name":"c","kind":"prog","handlers":[{"name":"h","code":[["add","r0","x0"],["copy","x0","r0"],["deliver",1],["done",1]]}]}],"decls":[{"name":"d","form":"set","micros":["c"]}],"events":[{"name":"e","decl":"d","handlers":["c.h"]}],"do":[{"tick":1,"node":0,"event":"e","args":[1]},{"tick":1,"node":0,"event":"e","args":[1]}]}"#;
+/// A script with a part of each kind.
+const WHOLE: &str =
+    r#"{"version":1,"nodes":2,"ticks":3,"micros":[{"name":"a","kind":"prog","nums":[5],"ports":["e"],"changes":["c"],"handlers":[{"name":"h","code":[["set","r0",7],["send","x3",0,4],["done",1]]},{"name":"g","code":[["change",0,1]]}]},{"name":"l","kind":"link","ports":["e"]}],"decls":[{"name":"s","form":"set","micros":["l","a"]},{"name":"b","form":"bound","budget":7,"bounds":[{"micro":"a","calls":3}]},{"name":"r","form":"route","roots":["a.h","l.recv","a.h"],"edges":[["a.h","a.g"],["a.g","l.send"],["a.h","a.g"]]}],"events":[{"name":"e","decl":"r","handlers":["a.h","l.recv"]},{"name":"f","decl":"s","handlers":[]}],"changes":[{"name":"c","event":"e","table":[{"event":"f","handlers":["a.g"]},{"event":"e","handlers":[]}]}],"do":[{"tick":1,"node":0,"event":"f","args":[1]},{"tick":3,"node":1,"change":"c"}],"lose":[{"from":0,"to":1,"first":0,"last":9}],"crash":[{"node":1,"tick":9}]}"#;
 
-fn answer(alloc: Global, bytes: &[u8]) -> &'static str {
-    match read_first(alloc, bytes) {
-        Ok(_) => "read",
-        Err(FirstFault::NotFirst) => "not first",
-        Err(FirstFault::Memory) => "no memory",
+/// What stands in the whole script, what stands in its place, and the first fault then.
+const BENT: [(&str, &str, &str); 31] = [
+    (r#""name":"l""#, r#""name":"a""#, "Twice a"),
+    (r#""name":"g""#, r#""name":"h""#, "Twice h"),
+    (r#""name":"f""#, r#""name":"e""#, "Twice e"),
+    (
+        r#""micros":["l","a"]"#,
+        r#""micros":["a","l","a"]"#,
+        "Twice a",
+    ),
+    (
+        r#"[{"micro":"a","calls":3}]"#,
+        r#"[{"micro":"a","calls":3},{"micro":"a","calls":1}]"#,
+        "Twice a",
+    ),
+    (
+        r#""handlers":["a.h","l.recv"]"#,
+        r#""handlers":["a.h","a.h"]"#,
+        "Twice a.h",
+    ),
+    (
+        r#"{"event":"f","handlers":["a.g"]}"#,
+        r#"{"event":"e","handlers":["a.g"]}"#,
+        "Twice e",
+    ),
+    (
+        r#""handlers":["a.g"]"#,
+        r#""handlers":["a.g","l.send","a.g"]"#,
+        "Twice a.g",
+    ),
+    (
+        r#""kind":"prog","nums":[5],"ports":["e"]"#,
+        r#""kind":"prog","nums":[5],"ports":["d"]"#,
+        "Unknown d",
+    ),
+    (r#""changes":["c"]"#, r#""changes":["e"]"#, "Unknown e"),
+    (
+        r#""micros":["l","a"]"#,
+        r#""micros":["l","b"]"#,
+        "Unknown b",
+    ),
+    (
+        r#"["a.g","l.send"]"#,
+        r#"["a.g","l.sends"]"#,
+        "Unknown l.sends",
+    ),
+    (r#""decl":"r""#, r#""decl":"d""#, "Unknown d"),
+    (
+        r#""handlers":["a.h","l.recv"]"#,
+        r#""handlers":["h.a"]"#,
+        "Unknown h.a",
+    ),
+    (
+        r#""name":"c","event":"e""#,
+        r#""name":"c","event":"c""#,
+        "Unknown c",
+    ),
+    (
+        r#"{"event":"f","handlers":["a.g"]}"#,
+        r#"{"event":"g","handlers":["a.g"]}"#,
+        "Unknown g",
+    ),
+    (
+        r#""handlers":["a.g"]"#,
+        r#""handlers":["a.send"]"#,
+        "Unknown a.send",
+    ),
+    (
+        r#""node":0,"event":"f""#,
+        r#""node":0,"event":"c""#,
+        "Unknown c",
+    ),
+    (r#""change":"c""#, r#""change":"e""#, "Unknown e"),
+    (r#""kind":"link""#, r#""kind":"fd""#, "Unknown l.recv"),
+    (
+        r#"["send","x3",0,4]"#,
+        r#"["send","x3",1,4]"#,
+        "WrongForm code",
+    ),
+    (
+        r#"["change",0,1]"#,
+        r#"["change",4294967297,1]"#,
+        "WrongForm code",
+    ),
+    (
+        r#""node":1,"change""#,
+        r#""node":2,"change""#,
+        "Over node 1",
+    ),
+    (r#""from":0,"to":1"#, r#""from":0,"to":2"#, "Over to 1"),
+    (
+        r#""node":1,"tick":9"#,
+        r#""node":7,"tick":9"#,
+        "Over node 1",
+    ),
+    (r#""tick":3"#, r#""tick":4"#, "Over tick 3"),
+    (
+        r#""tick":3,"node":1"#,
+        r#""tick":4,"node":2"#,
+        "Over node 1",
+    ),
+    (
+        r#""kind":"link","ports":["e"]"#,
+        r#""kind":"link","ports":[]"#,
+        "WrongForm ports",
+    ),
+    (r#""nodes":2,"#, r#""#, "Missing nodes"),
+    (r#""calls":3"#, r#""calls":257"#, "Over calls 256"),
+    (r#""version":1"#, r#""version":2"#, "WrongForm version"),
+];
+
+fn line(alloc: Global, fault: &ScriptFault) -> Result<String, AllocError> {
+    fault.to_string(alloc)
+}
+
+fn answer(alloc: Global, bytes: &[u8]) -> Result<String, AllocError> {
+    let read = read_script(alloc, bytes);
+    match &read {
+        Ok(_) => String::from_str(alloc, "read"),
+        Err(fault) => line(alloc, fault),
     }
 }
 
 #[test]
-fn reads_one(rt: HostRuntime) -> Result<(), Fail> {
-    let script = read_first(rt.alloc(), ONE.as_bytes())?;
-    assert_eq!(rt; (script.nodes, script.ticks), (1, 1));
-    for micro in script.micros.as_slice() {
-        assert_eq!(rt; micro.name.as_str(), "c");
-        assert_eq!(rt; micro.kind, Kind::Prog);
-        for handler in micro.handlers.as_slice() {
-            assert_eq!(rt; handler.name.as_str(), "h");
-            let code = [
-                Instr::Add {
-                    d: Place::Reg(0),
-                    s: Place::Local(0),
-                },
-                Instr::Copy {
-                    d: Place::Local(0),
-                    s: Place::Reg(0),
-                },
-                Instr::Deliver { k: 1 },
-                Instr::Done { k: 1 },
-            ];
-            assert_eq!(rt; handler.code.as_slice(), code.as_slice());
-        }
+fn answers_first_faults(rt: HostRuntime) -> Result<(), Fail> {
+    let alloc = rt.alloc();
+    for (part, other, wanted) in BENT {
+        let bent = WHOLE.replacen(alloc, part, other, 1)?;
+        let line = answer(alloc, bent.as_bytes())?;
+        assert_eq!(rt; line.as_str(), wanted, "{other}");
     }
+    Ok(())
+}
+
+fn at(micro: u32, index: u32) -> HandlerId {
+    HandlerId {
+        micro: MicroId(micro),
+        index,
+    }
+}
+
+#[test]
+fn reads_declarations(rt: HostRuntime) -> Result<(), Fail> {
+    let script = read_script(rt.alloc(), WHOLE.as_bytes())?;
     for decl in script.decls.as_slice() {
-        assert_eq!(rt; (decl.name.as_str(), decl.budget), ("d", 32));
-        if let Decl::Set { micros } = &decl.decl {
-            assert_eq!(rt; micros.as_slice(), [0].as_slice());
+        match &decl.decl {
+            Decl::Set { micros } => assert_eq!(rt; micros.as_slice(), [1, 0].as_slice()),
+            Decl::Bound { bounds } => assert_eq!(rt; bounds.as_slice(), [(0, 3)].as_slice()),
+            Decl::Route {
+                vertices,
+                roots,
+                edges,
+            } => {
+                let seen = [at(0, 0), at(1, 1), at(0, 1), at(1, 0)];
+                assert_eq!(rt; vertices.as_slice(), seen.as_slice());
+                assert_eq!(rt; roots.as_slice(), [0, 1].as_slice());
+                assert_eq!(rt; edges.as_slice(), [(0, 2), (2, 3)].as_slice());
+            }
         }
-    }
-    for event in script.events.as_slice() {
-        assert_eq!(rt; (event.name.as_str(), event.decl), ("e", 0));
-        let handlers = [HandlerId {
-            micro: MicroId(0),
-            index: 0,
-        }];
-        assert_eq!(rt; event.handlers.as_slice(), handlers.as_slice());
-    }
-    for item in script.does.as_slice() {
-        assert_eq!(rt; (item.tick, item.node), (1, NodeId(0)));
-        assert_eq!(rt; item.cause, Cause::Event(EventId(0)));
-        assert_eq!(rt; item.args.as_slice(), [1].as_slice());
     }
     let parts = [
         script.micros.len(),
         script.decls.len(),
         script.events.len(),
+        script.changes.len(),
         script.does.len(),
+        script.losses.len(),
+        script.crashes.len(),
     ];
-    assert_eq!(rt; parts, [1, 1, 1, 2]);
-    Ok(())
-}
-
-/// A text that stands in the script above, what stands in its place, and what is answered then.
-const BENT: [(&str, &str, &str); 60] = [
-    // a key too many, or one that isn't there
-    (r#""version":1,"#, r#""#, "not first"),
-    (r#""version":1,"#, r#""version":1,"lose":[],"#, "not first"),
-    (r#""nodes":1,"#, r#""#, "not first"),
-    (r#""ticks":1,"#, r#""#, "not first"),
-    (r#""kind":"prog","#, r#""#, "not first"),
-    (
-        r#""kind":"prog","#,
-        r#""kind":"prog","ports":[],"#,
-        "not first",
-    ),
-    (r#""name":"h","#, r#""#, "not first"),
-    (
-        r#""name":"h","#,
-        r#""name":"h","kind":"prog","#,
-        "not first",
-    ),
-    (r#""form":"set","#, r#""#, "not first"),
-    (
-        r#""form":"set","#,
-        r#""form":"set","budget":32,"#,
-        "not first",
-    ),
-    (r#""decl":"d","#, r#""#, "not first"),
-    (r#""decl":"d","#, r#""decl":"d","args":[],"#, "not first"),
-    (r#""tick":1,"#, r#""#, "not first"),
-    (r#""node":0,"#, r#""#, "not first"),
-    (r#""node":0,"event":"e","#, r#""node":0,"#, "not first"),
-    (r#""node":0,"#, r#""node":0,"change":"s","#, "not first"),
-    (r#","args":[1]"#, r#""#, "read"),
-    // of two equal keys the last counts
-    (r#""version":1,"#, r#""version":9,"version":1,"#, "read"),
-    (
-        r#""version":1,"#,
-        r#""version":1,"version":9,"#,
-        "not first",
-    ),
-    (
-        r#""version":1,"#,
-        r#""\u0076ersion":9,"version":1,"#,
-        "read",
-    ),
-    // numbers
-    (
-        r#""args":[1]"#,
-        r#""args":[0,18446744073709551615]"#,
-        "read",
-    ),
-    (
-        r#""args":[1]"#,
-        r#""args":[18446744073709551616]"#,
-        "not first",
-    ),
-    (r#""args":[1]"#, r#""args":[-1]"#, "not first"),
-    (r#""args":[1]"#, r#""args":[1.0]"#, "not first"),
-    (r#""args":[1]"#, r#""args":["1"]"#, "not first"),
-    (
-        r#""args":[1]"#,
-        r#""args":[1,1,1,1,1,1,1,1,1,1,1,1]"#,
-        "read",
-    ),
-    (
-        r#""args":[1]"#,
-        r#""args":[1,1,1,1,1,1,1,1,1,1,1,1,1]"#,
-        "not first",
-    ),
-    (r#""version":1"#, r#""version":2"#, "not first"),
-    (r#""version":1"#, r#""version":1.0"#, "not first"),
-    (r#""nodes":1"#, r#""nodes":2"#, "not first"),
-    (r#""ticks":1"#, r#""ticks":0"#, "not first"),
-    (r#""ticks":1"#, r#""ticks":10000"#, "read"),
-    (r#""ticks":1"#, r#""ticks":10001"#, "not first"),
-    (r#""tick":1"#, r#""tick":0"#, "not first"),
-    (r#""tick":1"#, r#""tick":2"#, "not first"),
-    (r#""node":0"#, r#""node":1"#, "not first"),
-    // instructions
-    (r#"["deliver",1]"#, r#"["deliver",4]"#, "read"),
-    (r#"["deliver",1]"#, r#"["deliver",5]"#, "not first"),
-    (r#"["deliver",1]"#, r#"["deliver",1,1]"#, "not first"),
-    (r#"["deliver",1]"#, r#"["add","r3","x3"]"#, "read"),
-    (r#"["deliver",1]"#, r#"["add","r4","x0"]"#, "not first"),
-    (r#"["deliver",1]"#, r#"["add","r0","x4"]"#, "not first"),
-    (r#"["deliver",1]"#, r#"["add","r0"]"#, "not first"),
-    (r#"["deliver",1]"#, r#"["sub","r0","x0"]"#, "not first"),
-    (r#"["deliver",1]"#, r#"[]"#, "not first"),
-    // names
-    (r#""name":"e""#, r#""name":"E""#, "not first"),
-    (r#""name":"d""#, r#""name":"1d""#, "not first"),
-    (r#""name":"c""#, r#""name":"""#, "not first"),
-    (r#""name":"h""#, r#""name":"h.h""#, "not first"),
-    (r#""name":"e""#, r#""name":"f""#, "not first"),
-    (
-        r#""form":"set","micros":["c"]"#,
-        r#""form":"set","micros":["b"]"#,
-        "not first",
-    ),
-    (
-        r#""form":"set","micros":["c"]"#,
-        r#""form":"set","micros":["c","c"]"#,
-        "not first",
-    ),
-    (r#""form":"set""#, r#""form":"bound""#, "not first"),
-    (r#""kind":"prog""#, r#""kind":"link""#, "not first"),
-    (r#""c.h""#, r#""c.g""#, "not first"),
-    (r#""c.h""#, r#""h.c""#, "not first"),
-    (r#""c.h""#, r#""c.h.h""#, "not first"),
-    (r#""c.h""#, r#""c.h","c.h""#, "not first"),
-    (r#""handlers":["c.h"]"#, r#""handlers":[]"#, "not first"),
-    (
-        r#"{"name":"h","code":["#,
-        r#"{"name":"h","code":[]},{"name":"h","code":["#,
-        "not first",
-    ),
-];
-
-#[test]
-fn answers_bent_scripts(rt: HostRuntime) -> Result<(), Fail> {
-    for (part, other, wanted) in BENT {
-        let bent = ONE.replacen(rt.alloc(), part, other, 1)?;
-        assert_ne!(rt; bent.as_str(), ONE, "{part}");
-        assert_eq!(rt; answer(rt.alloc(), bent.as_bytes()), wanted, "{other}");
-    }
-    Ok(())
-}
-
-#[test]
-fn answers_long_scripts(rt: HostRuntime) -> Result<(), Fail> {
-    let alloc = rt.alloc();
-    // what is put before a part of the script, how often, and what is answered then
-    let longer = [
-        (r#"["deliver",1]"#, r#"["done",0],"#, 28, "read"),
-        (r#"["deliver",1]"#, r#"["done",0],"#, 29, "not first"),
-        (
-            r#"{"tick":1,"#,
-            r#"{"tick":1,"node":0,"event":"e"},"#,
-            8190,
-            "read",
-        ),
-        (
-            r#"{"tick":1,"#,
-            r#"{"tick":1,"node":0,"event":"e"},"#,
-            8191,
-            "not first",
-        ),
-        (r#"{"version""#, " ", 1_048_576 - ONE.len(), "read"),
-        (r#"{"version""#, " ", 1_048_577 - ONE.len(), "not first"),
-    ];
-    for (part, piece, times, wanted) in longer {
-        let mut more = piece.repeat(alloc, times)?;
-        more.push_str(part)?;
-        let long = ONE.replacen(alloc, part, more.as_str(), 1)?;
-        assert_eq!(rt;
-            answer(alloc, long.as_bytes()),
-            wanted,
-            "{times} times {piece}"
-        );
-    }
-    Ok(())
-}
-
-#[test]
-fn refuses_other_bytes(rt: HostRuntime) -> Result<(), Fail> {
-    let alloc = rt.alloc();
-    let blanks = " ".repeat(alloc, 1_048_577)?;
-    let brackets = "[".repeat(alloc, 200)?;
-    let others: [&[u8]; 8] = [
-        b"",
-        b"null",
-        b"[]",
-        b"{}",
-        b"{\"version\":1",
-        b"{\"version\xff\":1}",
-        blanks.as_bytes(),
-        brackets.as_bytes(),
-    ];
-    for other in others {
-        assert_eq!(rt; answer(alloc, other), "not first", "{} bytes", other.len());
-    }
+    assert_eq!(rt; parts, [2, 3, 2, 1, 2, 1, 1]);
     Ok(())
 }

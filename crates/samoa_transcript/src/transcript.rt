@@ -1,5 +1,5 @@
 //! A list of entries in room that was made before.
-ghost use Rattle.std.specs.Prelude.{◌≡◌, ◌<◌, ◌+◌, [], ◌∷◌, ◌++◌, IfOk, length, slice_get};
+ghost use Rattle.std.specs.Prelude.{◌≡◌, ◌<◌, ◌≤◌, ◌+◌, [], ◌∷◌, ◌++◌, IfOk, length, slice_get};
 ghost use Rattle.samoa_transcript.specs.Written.{Written};
 
 use samoa_model::{Entry, NoMemory};
@@ -27,6 +27,17 @@ impl Transcript {
         ensures { IfOk result (λ made. made ≡ record { entries = []; room = spare }) }
     {
         let entries = Vec::with_capacity(alloc, spare)?;
+        Ok(Transcript { entries })
+    }
+
+    /// No entry, and room for so many or more, or want of memory. What memory this one has is used again.
+    pub fn renewed(self, spare: usize) -> Result<Transcript, NoMemory>
+        ensures entries { IfOk result (λ made. made.entries ≡ []) }
+        ensures room { IfOk result (λ made. spare ≤ made.room) }
+    {
+        let mut entries = self.entries;
+        entries.clear();
+        entries.reserve(spare)?;
         Ok(Transcript { entries })
     }
 

@@ -6,12 +6,12 @@ pub returns-in-Err : goal.returns-in-Err
 returns-in-Err c = λ entries.
     let hs = c.args.handlers.now in
     let some_there : zero < length hs = omega arith in
-    refusal_from-refused _ _ _ _ _ _ _ c.loop-handler-test.true (c.in-Err.ensures entries (take c.loop-handler.handler-index hs))
+    refusal_from-refused _ _ _ _ _ _ _ c.loop-handler-test.true (c.in-Err.ensures.set c.requires.set entries (take c.loop-handler.handler-index hs))
     ∙ (c.loop-handler.invariant entries ∙ refusal_in-attempt c.args.decl.now entries c.args.caller hs some_there)
 
 pub loop-handler-preserved : goal.loop-handler-preserved
 loop-handler-preserved c = λ entries.
-    refusal_from-passed _ _ _ _ _ _ c.loop-handler-test.true (c.in_default.ensures entries (take c.loop-handler.handler-index c.args.handlers.now))
+    refusal_from-passed _ _ _ _ _ _ c.loop-handler-test.true (c.in_default.ensures.set c.requires.set entries (take c.loop-handler.handler-index c.args.handlers.now))
     ∙ c.loop-handler.invariant entries
 
 pub returns : goal.returns

@@ -7,14 +7,14 @@ use Rattle.samoa_run.proofs.report.write_report.Goals as goal
 
 pub returns-in_err-write_history-clause-part : goal.returns-in_err-write_history-clause-part
 returns-in_err-write_history-clause-part g c =
-    on_err c.from_residual-in_err-write_history.result (report_begun c.args.script.now _ _ c.in_err-write_history.ensures.part)
+    on_err c.from_residual-in_err-write_history.result (report_begun c.args.script.now c.args.calls _ _ c.in_err-write_history.ensures.part)
 
 pub returns-clause-all : goal.returns-clause-all
 returns-clause-all g c =
     let past = ap (λ (d : Course). d.past) c.in_ok-write_history.ensures.has_run.idle in
-    on_ok_weaker c.write_end.result (λ last. report_written c.args.script.now c.write_history.new.self.core.past _ _ _ past c.in_ok-write_history.ensures.all last) c.write_end.ensures.all
+    on_ok_weaker c.write_end.result (λ last. report_written c.args.script.now c.args.calls c.write_history.new.self.core.past _ _ _ past c.in_ok-write_history.ensures.all last) c.write_end.ensures.all
 
 pub returns-clause-part : goal.returns-clause-part
 returns-clause-part g c =
     let past = ap (λ (d : Course). d.past) c.in_ok-write_history.ensures.has_run.idle in
-    on_err_weaker c.write_end.result (λ last. report_in_part c.args.script.now c.write_history.new.self.core.past _ _ _ past c.in_ok-write_history.ensures.all last) c.write_end.ensures.part
+    on_err_weaker c.write_end.result (λ last. report_in_part c.args.script.now c.args.calls c.write_history.new.self.core.past _ _ _ past c.in_ok-write_history.ensures.all last) c.write_end.ensures.part

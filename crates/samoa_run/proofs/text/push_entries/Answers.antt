@@ -1,4 +1,4 @@
-use Rattle.std.proofs.Common.{◌≡◌, ◌+◌, ◌<◌, ◌++◌, ◌∙◌, List, ap, append_assoc, arith, count_by, false, length, sym, take}
+use Rattle.std.proofs.Common.{◌≡◌, ◌+◌, ◌<◌, ◌++◌, ◌∙◌, List, ap, append_assoc, arith, count_by, length, sym, take}
 use Rattle.samoa_model.specs.declared.record.Entry.{Entry}
 use Rattle.samoa_serial.specs.Lines.{entry_text}
 use Rattle.samoa_serial.specs.Report.{entries_text, is_delivery, is_refusal}
@@ -24,18 +24,19 @@ pub loop-entry-preserved : goal.loop-entry-preserved
 loop-entry-preserved g c =
     let script = c.args.script.now in
     let comp = c.args.comp in
+    let calls = c.args.calls in
     let entries = (ended_at c.args.core.now comp).world.entries in
     let at = c.loop-entry.at in
     let entry = c.in-Some.entry in
     let start = c.args.text.now.items in
-    let before = entries_text script comp false (take at entries) in
-    let line = entry_text script comp false entry in
+    let before = entries_text script comp calls (take at entries) in
+    let line = entry_text script comp calls entry in
     record {
       within = omega (arith, found_within _ at entry c.in-Some.ensures);
       text = c.in_ok-entry_line.ensures.ok
           ∙ ap (λ (text : List _). text ++ line) c.loop-entry.invariant.text
           ∙ append_assoc start before line
-          ∙ ap (λ (text : List _). start ++ text) (sym (entries_text-one_more script comp false entries at entry c.in-Some.ensures));
+          ∙ ap (λ (text : List _). start ++ text) (sym (entries_text-one_more script comp calls entries at entry c.in-Some.ensures));
       comps = c.count.ensures.comps ∙ c.loop-entry.invariant.comps;
       deliveries = omega (arith, c.count.ensures.deliveries, c.loop-entry.invariant.deliveries, count_by-one_more is_delivery entries at entry c.in-Some.ensures);
       refusals = omega (arith, c.count.ensures.refusals, c.loop-entry.invariant.refusals, count_by-one_more is_refusal entries at entry c.in-Some.ensures);
@@ -44,7 +45,7 @@ loop-entry-preserved g c =
 pub returns-clause-text : goal.returns-clause-text
 returns-clause-text g c =
     c.loop-entry.invariant.text
-    ∙ ap (λ (es : List Entry). c.args.text.now.items ++ entries_text c.args.script.now c.args.comp false es) (take_whole _ c.loop-entry.at c.in_default.ensures)
+    ∙ ap (λ (es : List Entry). c.args.text.now.items ++ entries_text c.args.script.now c.args.comp c.args.calls es) (take_whole _ c.loop-entry.at c.in_default.ensures)
 
 pub returns-clause-totals : goal.returns-clause-totals
 returns-clause-totals g c =

@@ -1,4 +1,4 @@
-use Rattle.std.proofs.Common.{◌≡◌, ◌+◌, ◌-◌, ◌≤◌, ◌++◌, false, length, take, count_by}
+use Rattle.std.proofs.Common.{◌≡◌, ◌+◌, ◌-◌, ◌≤◌, ◌++◌, length, take, count_by}
 use Rattle.samoa_serial.specs.Report.{entries_text, is_delivery, is_refusal}
 use Rattle.samoa_core.specs.Course.{ended_at}
 use Rattle.samoa_run.proofs.text.push_entries.Given as goal
@@ -7,7 +7,7 @@ abbrev pub invariant-loop-entry : goal.invariant-loop-entry
 invariant-loop-entry g l =
     let entries = (ended_at l.core l.comp).world.entries in record {
       within : l.at ≤ length entries;
-      text : l.text.items ≡ l.initial.text.items ++ entries_text l.script l.comp false (take l.at entries);
+      text : l.text.items ≡ l.initial.text.items ++ entries_text l.script l.comp l.calls (take l.at entries);
       comps : l.totals.comps ≡ l.initial.totals.comps;
       deliveries : l.totals.deliveries ≡ l.initial.totals.deliveries + count_by is_delivery (take l.at entries);
       refusals : l.totals.refusals ≡ l.initial.totals.refusals + count_by is_refusal (take l.at entries);

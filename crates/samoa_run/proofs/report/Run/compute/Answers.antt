@@ -1,4 +1,4 @@
-use Rattle.std.proofs.Common.{◌≡◌, ◌∙◌, ◌++◌, List, ap, false}
+use Rattle.std.proofs.Common.{◌≡◌, ◌∙◌, ◌++◌, List, ap}
 use Rattle.samoa_serial.specs.Report.{comp_text, is_delivery, is_refusal}
 use Rattle.samoa_core.specs.Course.{ended_at}
 use Rattle.samoa_run.proofs.OneMore.{left_after, last_ext, last_text, room_for, has_run-more}
@@ -19,8 +19,8 @@ returns-clause-text g c =
     let comp = c.in_ok-comp.comp in
     let left = left_after _ _ _ _ _ _ c.requires.has_run.idle c.in_ok-comp.ensures.ended c.in_ok-comp.ensures.number in
     c.in_ok-push_comp.ensures.text c.args.ext (last_ext _ _ _ _ comp left)
-    ∙ ap (λ (text : List _). text ++ comp_text c.args.script.now false comp c.args.ext (ended_at c.run_one.new.core comp)) c.clear.ensures.items
-    ∙ last_text _ _ _ _ comp left
+    ∙ ap (λ (text : List _). text ++ comp_text c.args.script.now c.args.calls comp c.args.ext (ended_at c.run_one.new.core comp)) c.clear.ensures.items
+    ∙ last_text _ _ _ _ _ comp left
 
 pub returns-clause-has_run : goal.returns-clause-has_run
 returns-clause-has_run g c =

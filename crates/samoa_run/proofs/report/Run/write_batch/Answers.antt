@@ -16,7 +16,7 @@ loop-item-init g c =
     let W : List _ → Type 0 = Appends (g.K.Sink.written c.args.sink.now) (g.K.Sink.written c.args.sink.now) in
     let H : List Ext → Type 0 = λ past. HasRun c.args.script.now past c.args.self.now.core c.args.self.now.totals in
     record {
-      written = subst W (sym (later_text-none c.args.script.now c.args.self.now.core.past)) (Appends-nil _);
+      written = subst W (sym (later_text-none c.args.script.now c.args.calls c.args.self.now.core.past)) (Appends-nil _);
       later = omega arith;
       has_run = subst H (sym (append-nil c.args.self.now.core.past)) c.requires.has_run;
     }
@@ -30,7 +30,7 @@ pub returns-in_err-write_one-clause-part : goal.returns-in_err-write_one-clause-
 returns-in_err-write_one-clause-part g c =
     let within : c.loop-item.item-index < length c.args.items.now = omega arith in
     let before = ap (λ (d : Course). d.past) c.loop-item.invariant.has_run.idle in
-    on_err c.from_residual.result (wrote_in_part c.args.script.now c.args.self.now.core.past c.loop-item.self.core.past c.args.items.now c.loop-item.item-index c.item-item.result c.ext_of.result _ _ _
+    on_err c.from_residual.result (wrote_in_part c.args.script.now c.args.calls c.args.self.now.core.past c.loop-item.self.core.past c.args.items.now c.loop-item.item-index c.item-item.result c.ext_of.result _ _ _
     within c.item-item.is c.ext_of.ensures before c.loop-item.invariant.written c.in_err-write_one.ensures.part)
 
 pub loop-item-preserved : goal.loop-item-preserved
@@ -39,7 +39,7 @@ loop-item-preserved g c =
     let before = ap (λ (d : Course). d.past) c.loop-item.invariant.has_run.idle in
     let H : List Ext → Type 0 = λ past. HasRun c.args.script.now past c.write_one.new.self.core c.write_one.new.self.totals in
     record {
-      written = wrote_next c.args.script.now c.args.self.now.core.past c.loop-item.self.core.past c.args.items.now c.loop-item.item-index c.item-item.result c.ext_of.result _ _ _
+      written = wrote_next c.args.script.now c.args.calls c.args.self.now.core.past c.loop-item.self.core.past c.args.items.now c.loop-item.item-index c.item-item.result c.ext_of.result _ _ _
           within c.item-item.is c.ext_of.ensures before c.loop-item.invariant.written c.in_ok-write_one.ensures.all;
       later = omega (arith, c.loop-item.invariant.later, c.write_one.ensures.cause.later);
       has_run = subst H (past_more c.args.self.now.core.past c.loop-item.self.core.past c.args.items.now c.loop-item.item-index c.item-item.result c.ext_of.result within c.item-item.is c.ext_of.ensures before)

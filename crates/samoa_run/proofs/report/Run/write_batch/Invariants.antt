@@ -8,7 +8,7 @@ abbrev pub invariant-loop-item : goal.invariant-loop-item
 invariant-loop-item g l =
     let past = l.initial.self.core.past in
     let done = map ext_of (take l.item-index l.items) in record {
-      written : Appends (g.K.Sink.written l.initial.sink) (g.K.Sink.written l.sink) (later_text l.script past done);
+      written : Appends (g.K.Sink.written l.initial.sink) (g.K.Sink.written l.sink) (later_text l.script l.calls past done);
       later : g.K.Sink.faults l.initial.sink ≤ g.K.Sink.faults l.sink;
       has_run : HasRun l.script (past ++ done) l.self.core l.self.totals;
     }

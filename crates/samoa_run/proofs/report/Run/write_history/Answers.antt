@@ -19,7 +19,7 @@ loop-before-init g c =
     let W : List _ → Type 0 = Appends (g.K.Sink.written c.args.sink.now) (g.K.Sink.written c.args.sink.now) in
     let H : List Ext → Type 0 = λ past. HasRun script past c.args.self.now.core c.args.self.now.totals in
     record {
-      written = subst W (sym (ap (later_text script []) (history_to-none script) ∙ later_text-none script [])) (Appends-nil _);
+      written = subst W (sym (ap (later_text script c.args.calls []) (history_to-none script) ∙ later_text-none script c.args.calls [])) (Appends-nil _);
       later = omega arith;
       has_run = subst H (sym (history_to-none script)) c.requires.has_run;
       remains = remains_all script.does c.args.items.now c.requires.by_tick (items_late script c.requires.in_range);
@@ -44,7 +44,7 @@ returns-in_err-write_batch-clause-part g c =
     let before = c.loop-before.before in
     let items : c.split_at.result.0.now ≡ of_tick (before + 1) c.args.script.now.does
     = c.split_at.ensures.front ∙ first_of_tick _ _ before c.count_of_tick.result c.loop-before.invariant.remains c.count_of_tick.ensures.before c.count_of_tick.ensures.next in
-    on_err c.from_residual.result (wrote_batch_in_part c.args.script.now before c.loop-before.self.core.past c.split_at.result.0.now _ _ _ (omega arith) (ap (λ (d : Course). d.past) c.loop-before.invariant.has_run.idle, items)
+    on_err c.from_residual.result (wrote_batch_in_part c.args.script.now c.args.calls before c.loop-before.self.core.past c.split_at.result.0.now _ _ _ (omega arith) (ap (λ (d : Course). d.past) c.loop-before.invariant.has_run.idle, items)
     c.loop-before.invariant.written c.in_err-write_batch.ensures.part)
 
 pub loop-before-preserved : goal.loop-before-preserved
@@ -55,7 +55,7 @@ loop-before-preserved g c =
     let next : IsNext c.args.script.now before c.loop-before.self.core.past c.split_at.result.0.now = (ap (λ (d : Course). d.past) c.loop-before.invariant.has_run.idle, items) in
     let R : List DoDef → Type 0 = λ rest. Remains c.args.script.now.does (before + 1) rest in
     record {
-      written = wrote_batch c.args.script.now before c.loop-before.self.core.past c.split_at.result.0.now _ _ _ next c.loop-before.invariant.written c.in_ok-write_batch.ensures.all;
+      written = wrote_batch c.args.script.now c.args.calls before c.loop-before.self.core.past c.split_at.result.0.now _ _ _ next c.loop-before.invariant.written c.in_ok-write_batch.ensures.all;
       later = omega (arith, c.loop-before.invariant.later, c.write_batch.ensures.cause.later);
       has_run = has_run-batch c.args.script.now before c.loop-before.self.core.past c.split_at.result.0.now _ _ next c.in_ok-write_batch.ensures.has_run;
       remains = subst R (sym c.split_at.ensures.back) (remains_next _ _ before c.count_of_tick.result c.loop-before.invariant.remains c.count_of_tick.ensures.before c.count_of_tick.ensures.next);
@@ -64,7 +64,7 @@ loop-before-preserved g c =
 pub returns-clause-all : goal.returns-clause-all
 returns-clause-all g c =
     let last : c.loop-before.before ≡ c.args.script.now.ticks = omega arith in
-    let P : List Ext → Type 0 = λ exts. Appends (g.K.Sink.written c.args.sink.now) (g.K.Sink.written c.loop-before.sink) (later_text c.args.script.now [] exts) in
+    let P : List Ext → Type 0 = λ exts. Appends (g.K.Sink.written c.args.sink.now) (g.K.Sink.written c.loop-before.sink) (later_text c.args.script.now c.args.calls [] exts) in
     subst P (all_ticks c.args.script.now c.loop-before.before last) c.loop-before.invariant.written
 
 pub returns-clause-has_run : goal.returns-clause-has_run

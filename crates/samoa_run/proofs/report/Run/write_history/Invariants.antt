@@ -7,7 +7,7 @@ use Rattle.samoa_run.proofs.report.Run.write_history.Given as goal
 
 abbrev pub invariant-loop-before : goal.invariant-loop-before
 invariant-loop-before g l = record {
-  written : Appends (g.K.Sink.written l.initial.sink) (g.K.Sink.written l.sink) (later_text l.script [] (history_to l.script l.before));
+  written : Appends (g.K.Sink.written l.initial.sink) (g.K.Sink.written l.sink) (later_text l.script l.calls [] (history_to l.script l.before));
   later : g.K.Sink.faults l.initial.sink ≤ g.K.Sink.faults l.sink;
   has_run : HasRun l.script (history_to l.script l.before) l.self.core l.self.totals;
   remains : Remains l.script.does l.before l.rest;

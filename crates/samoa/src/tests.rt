@@ -1,0 +1,127 @@
+//! The top call over sources and sinks in memory, of which some fail.
+ghost use Rattle.std.specs.Prelude.{◌≡◌, ◌≤◌, true, map, All, IfOk};
+ghost use Rattle.samoa_model.specs.declared.setup.Kind.TheVariants.{Prog as ProgKind};
+ghost use Rattle.samoa_micro.specs.Covers.{count_of};
+
+use crate::serve_boxes;
+use samoa_ends::{MemSink, MemSource};
+use samoa_micro::Micro;
+use samoa_model::NoMemory;
+use samoa_prog::Prog;
+use std::alloc::Global;
+use std::marker::Send;
+use std::sync::Wait;
+use std::test::Fail;
+use std::thread::Threads;
+
+const COUNTER: &str =
+    r#"{"version":1,"nodes":1,"ticks":1,"micros":[{"name":"c","kind":"prog","handlers":[{"name":"h","code":[["add","r0","x0"],["copy","x0","r0"],["deliver",1],["done",1]]}]}],"decls":[{"name":"d","form":"set","micros":["c"]}],"events":[{"name":"e","decl":"d","handlers":["c.h"]}],"do":[{"tick":1,"node":0,"event":"e","args":[7]}]}"#;
+
+const LINES: [&str; 5] = [
+    "E 1 1 0 e 7\n",
+    "D 1 c 7\n",
+    "Z 1 ok 7\n",
+    "S 0 c 7 0 0 0\n",
+    "N 1 1 0\n",
+];
+
+/// As many scripted microprotocols as a script can take.
+fn boxes(alloc: Global) -> Result<Vec<Prog>, NoMemory>
+    ensures fresh { IfOk result (λ boxes. All (λ b. (⟦<Prog as Micro>⟧.seen b).fresh ≡ true) boxes.items) }
+    ensures enough { IfOk result (λ boxes. 32 ≤ count_of (map (λ b. (⟦<Prog as Micro>⟧.seen b).kind) boxes.items) ProgKind) }
+{
+    let mut boxes = Vec::new(alloc);
+    while boxes.len() < 32 {
+        boxes.push(Prog::new(alloc))?;
+    }
+    Ok(boxes)
+}
+
+/// The status for these words, and what is written. The reads and writes of these numbers fail.
+fn answer<R: Wait + Threads + Sync>(
+    rt: &R,
+    alloc: Global,
+    words: &[&str],
+    input: &str,
+    reads: &[u64],
+    writes: &[u64],
+) -> Result<(u8, Vec<u8>), NoMemory> {
+    let mut asked = Vec::new(alloc);
+    for word in words {
+        asked.push(String::from_str(alloc, word)?)?;
+    }
+    let bytes = Vec::from_slice(alloc, input.as_bytes())?;
+    let mut source = MemSource::new(bytes, Vec::from_slice(alloc, reads)?);
+    let mut sink = MemSink::new(alloc, 4096, Vec::from_slice(alloc, writes)?)?;
+    let status = serve_boxes(rt, alloc, &asked, &mut source, &mut sink, boxes(alloc)?);
+    Ok((status, Vec::from_slice(alloc, sink.bytes())?))
+}
+
+/// Each word once, and words that are none: the status and what is written.
+#[test]
+fn answers_words(rt: HostRuntime) -> Result<(), Fail> {
+    let alloc = rt.alloc();
+    let cases: [(&[&str], &str, u8, &str); 9] = [
+        (&[], COUNTER, 2, "! usage\n"),
+        (&["run", "--call"], COUNTER, 2, "! usage\n"),
+        (&["check", "--calls"], COUNTER, 2, "! usage\n"),
+        (&["--help"], COUNTER, 2, "! usage\n"),
+        (&["run"], "", 3, "! script NotJson\n"),
+        (
+            &["check"],
+            "{\"version\":1.0}",
+            3,
+            "! script WrongForm version\n",
+        ),
+        (
+            &["serial", "--calls"],
+            "{}",
+            3,
+            "! script Missing version\n",
+        ),
+        (
+            &["run"],
+            COUNTER,
+            0,
+            "E 1 1 0 e 7\nD 1 c 7\nZ 1 ok 7\nS 0 c 7 0 0 0\nN 1 1 0\n",
+        ),
+        (
+            &["serial", "--calls"],
+            COUNTER,
+            0,
+            "E 1 1 0 e 7\nC 1 1 0 c.h 7\nD 1 c 7\nY 1 1 7\nZ 1 ok 7\nS 0 c 7 0 0 0\nN 1 1 0\n",
+        ),
+    ];
+    for (words, input, status, text) in cases {
+        let (found, written) = answer(&rt, alloc, words, input, &[], &[])?;
+        assert_eq!(rt; found, status);
+        assert_eq!(rt; written.as_slice(), text.as_bytes());
+    }
+    Ok(())
+}
+
+/// The nth write fails, for each n: the lines before it are written.
+#[test]
+fn stops_at_a_failed_write(rt: HostRuntime) -> Result<(), Fail> {
+    let alloc = rt.alloc();
+    let mut wanted = Vec::new(alloc);
+    for (n, line) in LINES.iter().enumerate() {
+        let (status, written) = answer(&rt, alloc, &["run"], COUNTER, &[], &[n as u64 + 1])?;
+        assert_eq!(rt; status, 5);
+        assert_eq!(rt; written.as_slice(), wanted.as_slice());
+        wanted.extend_from_slice(line.as_bytes())?;
+    }
+    Ok(())
+}
+
+/// The nth read fails, for each n: nothing is written, and past the last read all is.
+#[test]
+fn stops_at_a_failed_read(rt: HostRuntime) -> Result<(), Fail> {
+    let alloc = rt.alloc();
+    for (n, status) in [(1, 4), (2, 4), (3, 0)] {
+        let (found, written) = answer(&rt, alloc, &["run"], COUNTER, &[n], &[])?;
+        assert_eq!(rt; found, status);
+        assert_eq!(rt; written.is_empty(), status == 4);
+    }
+    Ok(())
+}

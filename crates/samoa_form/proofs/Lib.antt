@@ -1,0 +1,6 @@
+pub mod Along
+pub mod Limits
+pub mod Refused
+pub mod Texts
+pub mod Views
+pub mod Whole

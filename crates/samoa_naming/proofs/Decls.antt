@@ -1,0 +1,116 @@
+-- What the declarations of a draft that passes allow is of its script.
+use Rattle.std.proofs.Common.{◌≡◌, ℕ, ◌<◌, ◌≤◌, List, [], ◌∷◌, ◌++◌, length, get_or, map, ltb, None, refl, sym, ap, ◌∙◌, subst}
+use Rattle.std.specs.List.{All, flat_map}
+use Rattle.std.proofs.lemmas.Bool.{ltb-false}
+use Rattle.std.proofs.lemmas.List.{length-map}
+use Rattle.std.proofs.lemmas.List.Elements.{All-map, All-append}
+use Rattle.samoa_model.specs.declared.ids.HandlerId.{HandlerId}
+use Rattle.samoa_model.specs.declared.script.DeclDef.{DeclDef}
+use Rattle.samoa_grammar.specs.declared.draft.BoundDraft.{BoundDraft}
+use Rattle.samoa_grammar.specs.declared.draft.EdgeDraft.{EdgeDraft}
+use Rattle.samoa_grammar.specs.declared.draft.BodyDraft.{BodyDraft}
+use Rattle.samoa_grammar.specs.declared.draft.BodyDraft.TheVariants as bodies
+use Rattle.samoa_grammar.specs.declared.draft.DeclDraft.{DeclDraft}
+use Rattle.samoa_grammar.specs.declared.draft.Draft.{Draft}
+use Rattle.samoa_grammar.specs.Walks.{◌then◌, first_along}
+use Rattle.samoa_grammar.specs.Meaning.{number_in_names, micros_named, handler_of, once, vertices_of, vertex_of, edge_numbers, micro_meant, body_meant, decl_meant, script_of}
+use Rattle.samoa_grammar.specs.Passes.{twice, body_twice, among, micro_names, handler_unknown, body_unknown, vertices_fault, twice_fault, unknown_fault, totals_fault}
+use Rattle.samoa_form.specs.Limits.{HasBodyLimits, HasDeclLimits, HasLimits}
+use Rattle.samoa_naming.specs.Routes.{ends_of}
+use Rattle.samoa_naming.specs.Sound.{IsSetOf, IsDeclOf, HasDecls}
+use Rattle.samoa_naming.proofs.Along.{then_none}
+use Rattle.samoa_naming.proofs.Passed.{along_all, bodies_apart, bodies_defined, vertices_few}
+use Rattle.samoa_naming.proofs.Sizes.{when_fails}
+use Rattle.samoa_naming.proofs.Numbers.{number_below, handler_below}
+use Rattle.samoa_naming.proofs.Apart.{numbers_apart}
+use Rattle.samoa_naming.proofs.Vertices.{once_all, edges_all, all_ends, roots_below, ends_below}
+
+micros_many : (x : Draft) → length (micros_named x) ≡ length (script_of x).micros
+unfolding script_of
+micros_many x = length-map x.micros (λ m. m.name) ∙ sym (length-map x.micros (micro_meant x))
+
+-- names of microprotocols, each known and none twice, are a set of the script
+set_in : (x : Draft) (names : List (List ℕ)) → twice names ≡ None → All (λ n. among (micro_names x) n ≡ None) names → IsSetOf (script_of x) (map (number_in_names (micros_named x)) names)
+set_in x names apart known =
+    record {
+      known = All-map (λ p. p < length (script_of x).micros) (number_in_names (micros_named x)) names
+          (λ k d below. subst (λ n. number_in_names (micros_named x) (get_or names k d) < n) (micros_many x) (number_below (micros_named x) (get_or names k d) (known k d below)));
+      apart = numbers_apart (micros_named x) names apart known;
+    }
+
+map_map : {X Y Z : Type 0} (g : Y → Z) (f : X → Y) (xs : List X) → map g (map f xs) ≡ map (λ x. g (f x)) xs
+map_map g f [] = refl
+map_map g f (x ∷ xs) = ap (λ ys. g (f x) ∷ ys) (map_map g f xs)
+
+bound_in : (x : Draft) (bounds : List BoundDraft) → twice (map (λ (b : BoundDraft). b.micro) bounds) ≡ None → All (λ (b : BoundDraft). among (micro_names x) b.micro ≡ None) bounds
+    → IsSetOf (script_of x) (map (λ (b : ℕ × ℕ). b.0) (map (λ (b : BoundDraft). (number_in_names (micros_named x) b.micro, b.calls)) bounds))
+bound_in x bounds apart known =
+    let number : List ℕ → ℕ = number_in_names (micros_named x) in
+    let names = map (λ (b : BoundDraft). b.micro) bounds in
+    let same : map number names ≡ map (λ b. b.0) (map (λ (b : BoundDraft). (number b.micro, b.calls)) bounds) =
+    map_map number (λ (b : BoundDraft). b.micro) bounds ∙ sym (map_map (λ (b : ℕ × ℕ). b.0) (λ (b : BoundDraft). (number b.micro, b.calls)) bounds) in
+    subst (IsSetOf (script_of x)) same (set_in x names apart (All-map (λ n. among (micro_names x) n ≡ None) (λ (b : BoundDraft). b.micro) bounds known))
+
+-- ---- routes
+
+handlers_in : (x : Draft) (name : List ℕ) → handler_unknown x.micros name ≡ None → (handler_of x.micros name).micro.0 < length (script_of x).micros
+unfolding script_of
+handlers_in x name h = subst (λ n. (handler_of x.micros name).micro.0 < n) (sym (length-map x.micros (micro_meant x))) (handler_below x.micros name h)
+
+edge_in : (x : Draft) (e : EdgeDraft) → (handler_unknown x.micros e.from then handler_unknown x.micros e.to) ≡ None
+    → ((handler_of x.micros e.from).micro.0 < length (script_of x).micros) × ((handler_of x.micros e.to).micro.0 < length (script_of x).micros)
+edge_in x e h =
+    let parts = then_none (handler_unknown x.micros e.from) (handler_unknown x.micros e.to) h in
+    (handlers_in x e.from parts.0, handlers_in x e.to parts.1)
+
+vertices_32 : (x : Draft) (roots : List (List ℕ)) (edges : List EdgeDraft) → vertices_fault x.micros (bodies.Route roots edges) ≡ None → length (vertices_of x.micros roots edges) ≤ 32
+vertices_32 x roots edges h =
+    let many = length (vertices_of x.micros roots edges) in
+    ltb-false 32 many (when_fails (ltb 32 many) _ h)
+
+vertices_known : (x : Draft) (roots : List (List ℕ)) (edges : List EdgeDraft) → All (λ n. handler_unknown x.micros n ≡ None) roots
+    → All (λ (e : EdgeDraft). (handler_unknown x.micros e.from then handler_unknown x.micros e.to) ≡ None) edges
+    → All (λ (h : HandlerId). h.micro.0 < length (script_of x).micros) (vertices_of x.micros roots edges)
+vertices_known x roots edges first later =
+    let Known : HandlerId → Type 0 = λ h. h.micro.0 < length (script_of x).micros in
+    once_all Known (map (handler_of x.micros) roots ++ flat_map (ends_of x.micros) edges)
+    (All-append Known (map (handler_of x.micros) roots) (flat_map (ends_of x.micros) edges)
+    (All-map Known (handler_of x.micros) roots (λ k d below. handlers_in x (get_or roots k d) (first k d below)))
+    (all_ends x.micros Known edges (λ k d below. edge_in x (get_or edges k d) (later k d below))))
+
+route_in : (x : Draft) (roots : List (List ℕ)) (edges : List EdgeDraft) → vertices_fault x.micros (bodies.Route roots edges) ≡ None → body_unknown x (bodies.Route roots edges) ≡ None
+    → IsDeclOf (script_of x) (body_meant x (bodies.Route roots edges))
+route_in x roots edges few h =
+    let parts = then_none (first_along (handler_unknown x.micros) roots) (first_along (λ (e : EdgeDraft). handler_unknown x.micros e.from then handler_unknown x.micros e.to) edges) h in
+    let first = along_all (handler_unknown x.micros) roots parts.0 in
+    let later = along_all (λ (e : EdgeDraft). handler_unknown x.micros e.from then handler_unknown x.micros e.to) edges parts.1 in
+    let hs = map (handler_of x.micros) roots in
+    let vs = vertices_of x.micros roots edges in
+    let Below : (ℕ × ℕ) → Type 0 = λ e. (e.0 < length vs) × (e.1 < length vs) in
+    record {
+      few = vertices_32 x roots edges few;
+      known = vertices_known x roots edges first later;
+      first = All-map (λ r. r < length vs) (vertex_of vs) (once hs) (roots_below hs (flat_map (ends_of x.micros) edges));
+      ends = edges_all Below (map (edge_numbers x.micros vs) edges) (All-map Below (edge_numbers x.micros vs) edges (ends_below x.micros hs edges));
+    }
+
+-- ---- any declaration
+
+body_in : (x : Draft) (body : BodyDraft) → HasBodyLimits body → body_twice body ≡ None → body_unknown x body ≡ None → vertices_fault x.micros body ≡ None → IsDeclOf (script_of x) (body_meant x body)
+body_in x (bodies.Set micros) limits apart known few = set_in x micros apart (along_all (among (micro_names x)) micros known)
+body_in x (bodies.Bound bounds) limits apart known few =
+    let Within : (ℕ × ℕ) → Type 0 = λ b. (1 ≤ b.1) × (b.1 ≤ 256) in (
+      bound_in x bounds apart (along_all (λ (b : BoundDraft). among (micro_names x) b.micro) bounds known),
+      All-map Within (λ (b : BoundDraft). (number_in_names (micros_named x) b.micro, b.calls)) bounds limits.1,
+    )
+body_in x (bodies.Route roots edges) limits apart known few = route_in x roots edges few known
+
+decl_in : (x : Draft) (d : DeclDraft) → HasDeclLimits d → body_twice d.body ≡ None → body_unknown x d.body ≡ None → vertices_fault x.micros d.body ≡ None → IsDeclOf (script_of x) (decl_meant x d).decl
+unfolding decl_meant
+decl_in x d limits apart known few = body_in x d.body limits.body apart known few
+
+pub decls_in : (x : Draft) → HasLimits x → twice_fault x ≡ None → unknown_fault x ≡ None → totals_fault x ≡ None → HasDecls (script_of x)
+unfolding script_of
+decls_in x limits apart known totals =
+    All-map (λ (d : DeclDef). IsDeclOf (script_of x) d.decl) (decl_meant x) x.decls
+    (λ k d below. decl_in x (get_or x.decls k d) (limits.decls k d below) (bodies_apart x apart k d below) (bodies_defined x known k d below) (vertices_few x totals k d below))

@@ -1,0 +1,13 @@
+pub mod Along
+pub mod Apart
+pub mod Decls
+pub mod Groups
+pub mod Numbers
+pub mod Once
+pub mod Passed
+pub mod Positions
+pub mod Range
+pub mod Sizes
+pub mod Sound
+pub mod Twice
+pub mod Vertices

@@ -1,0 +1,9 @@
+use Rattle.std.proofs.Common.{◌≡◌, None, take}
+use Rattle.samoa_grammar.specs.Walks.{first_along}
+use Rattle.samoa_grammar.specs.declared.draft.TableDraft.{TableDraft}
+use Rattle.samoa_grammar.specs.declared.draft.ChangeDraft.{ChangeDraft}
+use Rattle.samoa_grammar.specs.Passes.{twice}
+use Rattle.samoa_naming.proofs.doubles.tables_once.Given as goal
+
+abbrev pub invariant-loop-change : goal.invariant-loop-change
+invariant-loop-change l = first_along (λ (c : ChangeDraft). first_along (λ (t : TableDraft). twice t.handlers) c.table) (take l.change-index l.draft.changes) ≡ None

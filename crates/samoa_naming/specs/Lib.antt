@@ -1,0 +1,5 @@
+pub mod Finds
+pub mod Groups
+pub mod Routes
+pub mod Sizes
+pub mod Sound

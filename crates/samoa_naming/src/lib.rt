@@ -1,0 +1,17 @@
+//! The passes over a script's names and totals, and the script that its names mean.
+#![tactic(auto)]
+
+mod checking;
+mod doubles;
+mod faults;
+mod handlers;
+mod laws;
+mod named;
+mod resolving;
+mod routes;
+mod totals;
+mod undefined;
+
+pub use checking::check_names;
+pub use laws::{held_decls, held_range, held_totals};
+pub use resolving::resolve;

@@ -1,0 +1,4 @@
+pub mod Canonical
+pub mod Objects
+pub mod Texts
+pub mod Valid

@@ -1,0 +1,74 @@
+-- What is known of a script that can run by now.
+use Rattle.std.proofs.Common.{◌≡◌, ℕ, ◌*◌, ◌≤◌, ◌&&◌, true, List, [], ◌∷◌, length, refl, ap, ◌∙◌, arith, nat_le, eqb-true}
+use Rattle.std.specs.List.{All, count_by, list_all}
+use Rattle.std.proofs.lemmas.Bool.{and_parts, le-leb}
+use Rattle.std.proofs.lemmas.List.Elements.{All-nil, All-cons}
+use Rattle.std.proofs.lemmas.List.Sums.{count_by-le-length}
+use Rattle.samoa_model.specs.declared.setup.Kind.{Kind}
+use Rattle.samoa_model.specs.declared.setup.Kind.TheVariants.{Prog, Link, Fd, Rbcast, Cons, Abcast, Seqcast, Repl, Views}
+use Rattle.samoa_model.specs.contracts.setup.KindPartialEq.TheImpl.{ghosts}
+use Rattle.samoa_model.specs.declared.script.MicroDef.{MicroDef}
+use Rattle.samoa_model.specs.declared.script.Decl.{Decl}
+use Rattle.samoa_model.specs.declared.script.DeclDef.{DeclDef}
+use Rattle.samoa_model.specs.declared.script.Script.{Script}
+use Rattle.samoa_model.specs.Range.{IsSet, IsBuilt, IsInRange}
+use Rattle.samoa_micro.specs.Covers.{Covers, count_of, wanted}
+use Rattle.samoa_micro.proofs.CoverLaws.{Covers-from_all, has_enough}
+use Rattle.samoa_run.specs.Built.{is_set, is_none, is_scripted, is_built_micro, is_built}
+
+set_is : (d : Decl) → is_set d ≡ true → IsSet d
+set_is (Decl.Set micros) h = tt
+set_is (Decl.Bound bounds) h = absurd (cc)
+set_is (Decl.Route vertices roots edges) h = absurd (cc)
+
+sets_are : (ds : List DeclDef) → list_all (λ (d : DeclDef). is_set d.decl) ds ≡ true → All (λ (d : DeclDef). IsSet d.decl) ds
+sets_are [] h = All-nil (λ (d : DeclDef). IsSet d.decl)
+sets_are (d ∷ ds) h =
+    let parts = and_parts _ _ h in
+    let P : DeclDef → Type 0 = λ d. IsSet d.decl in All-cons P d ds (set_is d.decl parts.0) (sets_are ds parts.1)
+
+none_is : {X : Type 0} (xs : List X) → is_none xs ≡ true → xs ≡ []
+none_is [] h = refl
+none_is (x ∷ xs) h = absurd (cc)
+
+-- its declarations are sets, and no binding changes
+pub built-is : (script : Script) → is_built script ≡ true → IsBuilt script
+unfolding is_built
+built-is script h =
+    let micros = (and_parts _ _ h).1 in
+    let decls = (and_parts _ _ micros).1 in
+    let changes = (and_parts _ _ decls).1 in
+    record { sets = sets_are script.decls (and_parts _ _ decls).0; unchanging = none_is script.changes (and_parts _ _ changes).0 }
+
+scripted_is : (kind : Kind) → is_scripted kind ≡ true → kind ≡ Prog
+scripted_is Prog h = refl
+scripted_is Link h = absurd (cc)
+scripted_is Fd h = absurd (cc)
+scripted_is Rbcast h = absurd (cc)
+scripted_is Cons h = absurd (cc)
+scripted_is Abcast h = absurd (cc)
+scripted_is Seqcast h = absurd (cc)
+scripted_is Repl h = absurd (cc)
+scripted_is Views h = absurd (cc)
+
+enough_each : (script : Script) (kinds : List Kind) → wanted script Prog ≤ count_of kinds Prog → (micros : List MicroDef) → list_all is_built_micro micros ≡ true
+    → list_all (has_enough script kinds) micros ≡ true
+enough_each script kinds enough [] h = refl
+enough_each script kinds enough (m ∷ ms) h =
+    let parts = and_parts _ _ h in
+    let scripted : m.kind ≡ Prog = scripted_is m.kind (and_parts _ _ parts.0).0 in
+    let here : has_enough script kinds m ≡ true = rw scripted (le-leb (wanted script Prog) (count_of kinds Prog) enough) in
+    rw (here, enough_each script kinds enough ms parts.1) refl
+
+-- a stock of 32 boxes of the scripted kind covers it
+pub built-covers : (script : Script) (kinds : List Kind) → IsInRange script → is_built script ≡ true → 32 ≤ count_of kinds Prog → Covers script kinds
+unfolding is_built
+built-covers script kinds range h stock =
+    let parts = and_parts _ _ h in
+    let one : script.nodes ≡ 1 = eqb-true script.nodes 1 parts.0 in
+    let micros = (and_parts _ _ parts.1).0 in
+    let few = count_by-le-length (λ (micro : MicroDef). ghosts.eq micro.kind Prog) script.micros in
+    let all : wanted script Prog ≡ 1 * count_by (λ (micro : MicroDef). ghosts.eq micro.kind Prog) script.micros
+    = ap (λ (n : ℕ). n * count_by (λ (micro : MicroDef). ghosts.eq micro.kind Prog) script.micros) one in
+    let enough : wanted script Prog ≤ count_of kinds Prog = omega (arith, all, few, range.few_micros, stock) in
+    Covers-from_all script kinds (enough_each script kinds enough script.micros micros)

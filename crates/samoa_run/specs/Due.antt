@@ -1,0 +1,53 @@
+-- What is due for an order: what is to be written, and with which status.
+use Rattle.std.specs.Prelude.{◌≡◌, ℕ, ◌++◌, Bool, true, false, List, codes, decimal, Result, Ok, Err, if◌then◌else◌}
+use Rattle.samoa_model.specs.declared.script.Script.{Script}
+use Rattle.samoa_serial.specs.Report.{report}
+use Rattle.samoa_script.specs.declared.fault.ScriptFault.{ScriptFault}
+use Rattle.samoa_script.specs.declared.fault.ScriptFault.TheVariants.{TooLong, NotJson, Missing, WrongForm, Unknown, Twice, Over, Memory}
+use Rattle.serde_json.specs.Written.{compact_text}
+use Rattle.samoa_print.specs.Canonical.{tree_of}
+use Rattle.samoa_run.specs.declared.words.Order.{Order}
+use Rattle.samoa_run.specs.declared.words.Order.TheVariants.{Run, Serial, Check}
+use Rattle.samoa_run.specs.Built.{is_built}
+
+-- whether a script that is held can be treated as ordered by now
+abbrev pub can_do : Order → Script → Bool
+can_do (Run calls) script = is_built script
+can_do (Serial calls) script = is_built script
+can_do Check script = true
+
+-- what is written for a script
+abbrev pub output : Order → Script → List ℕ
+output (Run calls) script = report script calls
+output (Serial calls) script = report script calls
+output Check script = compact_text (tree_of script) ++ codes "\n"
+
+abbrev pub not_yet_line : List ℕ
+not_yet_line = codes "! script NotYet\n"
+
+abbrev pub is_memory : ScriptFault → Bool
+is_memory Memory = true
+is_memory _ = false
+
+-- a fault by its name, and with what it names
+abbrev pub fault_text : ScriptFault → List ℕ
+fault_text TooLong = codes "TooLong"
+fault_text NotJson = codes "NotJson"
+fault_text (Missing key) = codes "Missing " ++ key
+fault_text (WrongForm key) = codes "WrongForm " ++ key
+fault_text (Unknown name) = codes "Unknown " ++ name
+fault_text (Twice name) = codes "Twice " ++ name
+fault_text (Over name limit) = codes "Over " ++ (name ++ (codes " " ++ decimal limit))
+fault_text Memory = codes "Memory"
+
+abbrev pub fault_line : ScriptFault → List ℕ
+fault_line fault = codes "! script " ++ (fault_text fault ++ codes "\n")
+
+-- the status and the text that are due for what was read
+abbrev pub due_status : Order → Result Script ScriptFault → ℕ
+due_status order (Ok script) = if can_do order script then 0 else 3
+due_status order (Err fault) = 3
+
+abbrev pub due_text : Order → Result Script ScriptFault → List ℕ
+due_text order (Ok script) = if can_do order script then output order script else not_yet_line
+due_text order (Err fault) = fault_line fault

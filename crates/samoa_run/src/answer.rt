@@ -1,0 +1,114 @@
+//! An order on what was read.
+ghost use Rattle.std.specs.Prelude.{◌≡◌, ◌≢◌, ◌≤◌, ◌<◌, ◌⊎◌, Ok, IfOk};
+ghost use Rattle.samoa_model.specs.Range.{IsInRange};
+ghost use Rattle.samoa_model.specs.declared.setup.Kind.TheVariants.{Prog};
+ghost use Rattle.samoa_ends.specs.Causes.{Rose};
+ghost use Rattle.samoa_micro.specs.Covers.{count_of};
+ghost use Rattle.samoa_run.specs.Due.{due_status, due_text, fault_line as line_of, not_yet_line, output};
+ghost use Rattle.samoa_run.specs.Serving.{Answers};
+ghost use Rattle.samoa_run.specs.Built.{is_built};
+
+use crate::fault::fault_line;
+use crate::ready::built;
+use crate::report::write_report;
+use crate::stop::Stop;
+use crate::words::Order;
+use crate::writing::write_lines;
+use samoa_ends::{Failed, Sink};
+use samoa_micro::{Micro, Stock};
+use samoa_model::{NoMemory, Script};
+use samoa_print::print_script;
+use samoa_script::ScriptFault;
+use std::alloc::Global;
+
+/// Does what is ordered with a script that is held, and answers the status.
+pub fn treat<K: Sink, B: Micro>(
+    alloc: Global,
+    order: Order,
+    script: &Script,
+    stock: Stock<B>,
+    sink: &mut K,
+) -> u8
+    requires in_range { IsInRange script.now }
+    requires stock { 32 ≤ count_of stock Prog }
+    ensures written { Answers (due_status order (Ok script.now)) (due_text order (Ok script.now)) (K.written sink.old) (K.written sink.new) result }
+    ensures statuses { (result ≡ due_status order (Ok script.now)) ⊎ (result ≡ 5) ⊎ (result ≡ 6) }
+    ensures sink_failed { result ≡ 5 → Rose (K.faults sink.old) (K.faults sink.new) }
+{
+    match order {
+        Order::Check => write_canonical(alloc, script, sink),
+        Order::Run { calls } | Order::Serial { calls } => {
+            report_built(alloc, script, stock, calls, sink)
+        }
+    }
+}
+
+/// Writes the report of a script that can run by now.
+fn report_built<K: Sink, B: Micro>(
+    alloc: Global,
+    script: &Script,
+    stock: Stock<B>,
+    calls: bool,
+    sink: &mut K,
+) -> u8
+    requires in_range { IsInRange script.now }
+    requires stock { 32 ≤ count_of stock Prog }
+    ensures written { Answers (due_status (Order.Serial calls) (Ok script.now)) (due_text (Order.Serial calls) (Ok script.now)) (K.written sink.old) (K.written sink.new) result }
+    ensures statuses { (result ≡ due_status (Order.Serial calls) (Ok script.now)) ⊎ (result ≡ 5) ⊎ (result ≡ 6) }
+    ensures sink_failed { result ≡ 5 → Rose (K.faults sink.old) (K.faults sink.new) }
+{
+    if !built(script) {
+        return write_text(b"! script NotYet\n", 3, sink);
+    }
+    match write_report(alloc, script, stock, calls, sink) {
+        Ok(()) => 0,
+        Err(Stop::Failed) => 5,
+        Err(Stop::Memory) => 6,
+    }
+}
+
+/// Writes the canonical text of a script, and a line feed.
+fn write_canonical<K: Sink>(alloc: Global, script: &Script, sink: &mut K) -> u8
+    ensures written { Answers 0 (output Order.Check script.now) (K.written sink.old) (K.written sink.new) result }
+    ensures statuses { (result ≡ 0) ⊎ (result ≡ 5) ⊎ (result ≡ 6) }
+    ensures sink_failed { result ≡ 5 → Rose (K.faults sink.old) (K.faults sink.new) }
+{
+    match canonical(alloc, script) {
+        Ok(text) => write_text(&text, 0, sink),
+        Err(NoMemory) => 6,
+    }
+}
+
+/// The canonical text of a script, and a line feed.
+fn canonical(alloc: Global, script: &Script) -> Result<Vec<u8>, NoMemory>
+    ensures { IfOk result (λ text. text.items ≡ output Order.Check script.now) }
+{
+    let mut text = print_script(alloc, script)?;
+    text.push(b'\n')?;
+    Ok(text)
+}
+
+/// Writes the line of a script's fault, and answers the status.
+pub fn refuse<K: Sink>(alloc: Global, fault: &ScriptFault, sink: &mut K) -> u8
+    ensures written { Answers 3 (line_of fault.now) (K.written sink.old) (K.written sink.new) result }
+    ensures statuses { (result ≡ 3) ⊎ (result ≡ 5) ⊎ (result ≡ 6) }
+    ensures sink_failed { result ≡ 5 → Rose (K.faults sink.old) (K.faults sink.new) }
+{
+    match fault_line(alloc, fault) {
+        Ok(line) => write_text(&line, 3, sink),
+        Err(NoMemory) => 6,
+    }
+}
+
+/// Writes a text, and answers its status, or 5.
+pub fn write_text<K: Sink>(text: &[u8], status: u8, sink: &mut K) -> u8
+    requires { status < 4 }
+    ensures written { Answers status text.now (K.written sink.old) (K.written sink.new) result }
+    ensures statuses { (result ≡ status) ⊎ (result ≡ 5) }
+    ensures sink_failed { result ≡ 5 → Rose (K.faults sink.old) (K.faults sink.new) }
+{
+    match write_lines(text, sink) {
+        Ok(()) => status,
+        Err(Failed) => 5,
+    }
+}

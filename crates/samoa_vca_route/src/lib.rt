@@ -1,0 +1,14 @@
+//! When a computation under a route may be done with a microprotocol.
+#![tactic(auto)]
+
+mod laws;
+mod reaching;
+mod release;
+mod walk;
+
+pub use laws::away_is_elsewhere;
+pub use reaching::reach;
+pub use release::{may_release, raises};
+
+#[cfg(test)]
+mod tests;

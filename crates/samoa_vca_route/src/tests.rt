@@ -1,0 +1,101 @@
+//! Routes through three microprotocols.
+ghost use Rattle.std.specs.Prelude.{IfOk};
+ghost use Rattle.samoa_vca_route.specs.Routes.{IsRoute};
+
+use crate::{may_release, raises, reach};
+use samoa_declare::Standing;
+use samoa_model::{Decl, HandlerId, Listed, MicroId};
+use std::alloc::Global;
+use std::test::Fail;
+
+/// At most one active and one waiting handler.
+#[derive(Clone, Copy)]
+struct Calls {
+    active: Option<HandlerId>,
+    waiting: Option<HandlerId>,
+}
+
+impl Standing for Calls {
+    ghost use Rattle.std.specs.Prelude.{option_to_list};
+
+    ghost active_handlers = { λ calls. option_to_list calls.active };
+
+    ghost waiting_handlers = { λ calls. option_to_list calls.waiting };
+
+    fn active(&self, at: usize) -> Option<HandlerId> {
+        if at == 0 { self.active } else { None }
+    }
+
+    fn waiting(&self, at: usize) -> Option<HandlerId> {
+        if at == 0 { self.waiting } else { None }
+    }
+}
+
+fn handler(micro: u32) -> HandlerId {
+    HandlerId {
+        micro: MicroId(micro),
+        index: 0,
+    }
+}
+
+/// From 0 to 1, and then to and fro between 1 and 2.
+fn to_and_fro(alloc: Global) -> Result<Decl, Fail>
+    ensures { IfOk result IsRoute }
+{
+    Ok(Decl::Route {
+        vertices: Listed::from_vec(vec![in alloc; handler(0), handler(1), handler(2)]?),
+        roots: Listed::from_vec(vec![in alloc; 0]?),
+        edges: Listed::from_vec(vec![in alloc; (0, 1), (1, 2), (2, 1)]?),
+    })
+}
+
+/// From 0 to 1 or to 2.
+fn fork(alloc: Global) -> Result<Decl, Fail>
+    ensures { IfOk result IsRoute }
+{
+    Ok(Decl::Route {
+        vertices: Listed::from_vec(vec![in alloc; handler(0), handler(1), handler(2)]?),
+        roots: Listed::from_vec(vec![in alloc; 0]?),
+        edges: Listed::from_vec(vec![in alloc; (0, 1), (0, 2)]?),
+    })
+}
+
+#[test]
+fn walks_along_edges(rt: HostRuntime) -> Result<(), Fail> {
+    let decl = to_and_fro(rt.alloc())?;
+    for (from, to, reached) in [
+        (0, 0, true),
+        (0, 1, true),
+        (0, 2, true),
+        (2, 0, false),
+        (2, 1, true),
+        (2, 2, true),
+        (3, 3, false),
+    ] {
+        assert_eq!(rt; reach(&decl, handler(from), MicroId(to)), reached);
+    }
+    assert!(rt; !raises(&decl, MicroId(0)));
+    Ok(())
+}
+
+#[test]
+fn releases_what_no_call_can_reach(rt: HostRuntime) -> Result<(), Fail> {
+    let decl = fork(rt.alloc())?;
+    let (left, right, outside) = (Some(handler(1)), Some(handler(2)), Some(handler(3)));
+    for (active, waiting, micro, released) in [
+        (right, left, 0, true),
+        (right, left, 1, false),
+        (right, left, 2, false),
+        (right, None, 0, true),
+        (right, None, 1, true),
+        (right, None, 2, false),
+        (None, outside, 2, true),
+        (None, outside, 3, false),
+    ] {
+        assert_eq!(rt;
+            may_release(&decl, &Calls { active, waiting }, MicroId(micro)),
+            released
+        );
+    }
+    Ok(())
+}
