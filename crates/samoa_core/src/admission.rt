@@ -6,6 +6,7 @@ ghost use Rattle.samoa_model.specs.declared.script.Decl.{Decl};
 ghost use Rattle.samoa_model.specs.declared.record.Step.{Step};
 ghost use Rattle.samoa_model.specs.Scripts.{decl_of};
 ghost use Rattle.samoa_bind.specs.Bound.{first_tables};
+ghost use Rattle.samoa_calls.specs.Handed.{fresh};
 ghost use Rattle.samoa_invariant.specs.State.{named};
 ghost use Rattle.samoa_invariant.specs.Runs.{Trace, play, state};
 ghost use Rattle.samoa_core.specs.Admission.{admitted, raised, started, steps_of as steps_to_come, taken_versions, version_after};
@@ -55,6 +56,7 @@ impl<B: Micro> Core<B> {
             &ext,
             &mut self.exts,
             &mut self.comps,
+            self.spare.pop(),
             &mut self.ended,
             &mut self.private,
             &mut self.clears,
@@ -86,6 +88,7 @@ fn prepared(
     ext: &Ext,
     exts: &mut Vec<Ext>,
     comps: &mut Vec<Comp>,
+    spare: Option<Comp>,
     ended: &mut Vec<bool>,
     private: &mut Vec<u64>,
     clears: &mut Vec<u64>,
@@ -122,12 +125,19 @@ fn prepared(
     private.reserve(script.micros.len())?;
     clears.reserve(1)?;
     journal.reserve(steps as usize)?;
-    let comp = begun(alloc, script, tables, ext)?;
+    let comp = begun(alloc, script, tables, ext, spare)?;
     Ok((comp, promised))
 }
 
-/// Begins the computation of an admission. All room that it can need is made, or there was no memory.
-fn begun(alloc: Global, script: &Script, tables: &Tables, ext: &Ext) -> Result<Comp, NoMemory>
+/// Begins the computation of an admission, in the memory of the spare one if there is one. All room that it can need is
+/// made, or there was no memory.
+fn begun(
+    alloc: Global,
+    script: &Script,
+    tables: &Tables,
+    ext: &Ext,
+    spare: Option<Comp>,
+) -> Result<Comp, NoMemory>
     requires in_range { IsInRange script.now }
     requires built { IsBuilt script.now }
     requires tables { tables.now ≡ first_tables script.now }
@@ -138,10 +148,22 @@ fn begun(alloc: Global, script: &Script, tables: &Tables, ext: &Ext) -> Result<C
     let number = decl_number(script, ext);
     let decl = decl_in(script, number);
     let root = root_of(script, ext.cause);
-    let mut comp = Comp::new(alloc, number, decl.budget)?;
+    let mut comp = fresh_comp(alloc, spare, number, decl.budget)?;
     let handlers = tables.resolve(ext.node, 0, root);
     comp.start(&decl.decl, handlers, root, ext.args);
     Ok(comp)
+}
+
+/// A computation that hasn't begun, in the memory of the spare one if there is one.
+fn fresh_comp(alloc: Global, spare: Option<Comp>, decl: u32, budget: u32) -> Result<Comp, NoMemory>
+    requires some { 1 ≤ budget }
+    requires few { budget ≤ 256 }
+    ensures { IfOk result (λ comp. comp ≡ record { decl = decl; comp = fresh budget }) }
+{
+    match spare {
+        Some(comp) => comp.renewed(decl, budget),
+        None => Comp::new(alloc, decl, budget),
+    }
 }
 
 /// The sum, where it is a number of the machine; no memory has room for more.

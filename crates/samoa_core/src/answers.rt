@@ -12,6 +12,7 @@ ghost use Rattle.samoa_core.specs.Since.{cleared_comps};
 use crate::kernel::Core;
 use samoa_micro::Micro;
 use samoa_model::{Ending, Entry, Ext, MicroId, NodeId, Words};
+use std::mem::swap;
 
 impl<B: Micro> Core<B> {
     /// What began a computation.
@@ -83,6 +84,7 @@ impl<B: Micro> Core<B> {
         self.held = 0;
         self.first = self.exts.len() as u32;
         self.promised = least(self.promised, 3 * self.first as u64);
+        swap(&mut self.comps, &mut self.spare);
         self.comps.clear();
         self.private.clear();
         self.ended.clear();

@@ -13,7 +13,7 @@ pub invariant_of-result : goal.invariant_of-result
 invariant_of-result g c =
     let script : Script = c.in_ok-script.script in
     let many = ap (λ (n : ℕ). replicate {A = ℕ} (script.nodes * n) 0) c.len.ensures in
-    rw (c.new-2.ensures.items, c.new-3.ensures.items, c.new-4.ensures.items, c.new-5.ensures.items, c.new-6.ensures.items, c.new-7.ensures.items)
+    rw (c.new-2.ensures.items, c.new-3.ensures.items, c.new-4.ensures.items, c.new-5.ensures.items, c.new-7.ensures.items, c.new-8.ensures.items)
     (kept-new script c.in_ok-tables.tables c.in_ok-slots.slots c.in_ok-global.global.items c.in_ok-local.local.items c.args.cells _ _
     (subst IsInRange (sym c.in_ok-script.ensures) c.requires.in_range)
     (subst IsBuilt (sym c.in_ok-script.ensures) c.requires.built)
