@@ -1,15 +1,15 @@
 -- What a stock has left while slots are filled from it.
-use Rattle.std.proofs.Common.{◌≡◌, ◌<◌, ◌≤◌, ◌+◌, ◌-◌, ◌*◌, ◌∷◌, [], ◌++◌, ◌∙◌, ℕ, List, Option, Some, Bool, true, cond, ap, sym, refl, map, take, drop, get_or, length, append_assoc, add_assoc, add_comm, arith, suc, add-one}
+use Rattle.std.proofs.Common.{◌≡◌, ◌<◌, ◌≤◌, ◌+◌, ◌-◌, ◌*◌, ◌∷◌, [], ◌++◌, ◌∙◌, ℕ, List, Option, true, cond, ap, sym, refl, map, take, drop, get_or, length, append_assoc, arith}
 use Rattle.std.specs.List.{count_by}
-use Rattle.std.proofs.lemmas.List.{take_more, map-append, take_all, drop_all}
+use Rattle.std.proofs.lemmas.List.{take_more, map-append}
 use Rattle.std.proofs.lemmas.List.Sums.{sum_by_more, sum_by-drop_more}
 use Rattle.samoa_model.specs.declared.setup.Kind.{Kind}
 use Rattle.samoa_model.specs.declared.setup.Kind.TheVariants.{Prog, Link, Fd, Rbcast, Cons, Abcast, Seqcast, Repl, Views}
 use Rattle.samoa_model.specs.declared.script.MicroDef.{MicroDef}
 use Rattle.samoa_model.specs.declared.script.Script.{Script}
 use Rattle.samoa_model.specs.contracts.setup.KindPartialEq.TheImpl.{ghosts}
-use Rattle.samoa_serial.specs.Kinds.{Seen, set_up_as}
-use Rattle.samoa_core.specs.Slots.{set_up_at, setup_with, rows_of, row_of}
+use Rattle.samoa_serial.specs.Kinds.{Seen}
+use Rattle.samoa_core.specs.Slots.{set_up_at}
 
 -- a kind is itself
 pub eq-self : (kind : Kind) → ghosts.eq kind kind ≡ true

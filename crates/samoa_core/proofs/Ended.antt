@@ -1,54 +1,93 @@
--- What is read of computations that have ended, and of slots.
-use Rattle.std.proofs.Common.{◌≡◌, ℕ, ◌+◌, ◌-◌, ◌<◌, ◌≤◌, Bool, true, false, List, [], length, get_or, map, drop, Option, Some, None, refl, sym, ap, ◌∙◌, arith, length-drop}
-use Rattle.std.specs.Prelude.{◌&&◌, ◌==◌, if◌then◌else◌}
-use Rattle.std.proofs.lemmas.List.{length-map, get_or-drop, get_or_default, drop_all}
-use Rattle.std.proofs.Math.ListN.{get_or-map}
-use Rattle.samoa_model.specs.declared.record.Ext.{Ext}
-use Rattle.samoa_model.specs.declared.script.Script.{Script}
-use Rattle.samoa_serial.specs.Whole.{Ran}
+-- How little is to come where all have ended.
+use Rattle.std.proofs.Common.{arith, ◌≡◌, ◌⊎◌, inl, inr, ℕ, zero, suc, ◌+◌, ◌-◌, ◌*◌, ◌<◌, ◌≤◌, refl, sym, ap, subst, ◌∙◌, List, [], ◌∷◌, length, take, Bool, true, false, ◌||◌, ◌==◌, eq-eqb, if◌then◌else◌}
+use Rattle.std.specs.List.{list_any}
+use Rattle.std.specs.Prelude.{nat_lt}
+use Rattle.std.proofs.lemmas.Bool.{ltb-true}
+use Rattle.std.proofs.lemmas.List.{length-take-le}
+use Rattle.samoa_model.specs.Allowed.{declares, weight}
+use Rattle.samoa_model.specs.Range.{IsSet}
+use Rattle.samoa_model.specs.declared.script.Decl.{Decl}
+use Rattle.samoa_serial.specs.Alone.{Machine, next_step}
 use Rattle.samoa_serial.specs.Calls.{Computation}
-use Rattle.samoa_serial.specs.SerialRun.{serial}
-use Rattle.samoa_serial.proofs.SerialLaws.{length-comps}
-use Rattle.samoa_calls.specs.Held.{Held}
-use Rattle.samoa_core.specs.Course.{no_ran}
-use Rattle.samoa_core.specs.Kept.{end_of}
+use Rattle.samoa_serial.specs.World.{Turn}
+use Rattle.samoa_serial.proofs.Point.{turns-after}
+use Rattle.samoa_invariant.specs.Inv.{Invariant, IsDone}
+use Rattle.samoa_invariant.specs.Play.{Play, point, rules, stood, turns, whole_of}
+use Rattle.samoa_invariant.specs.State.{AllEnded, Core, home_of, left, left_of, named, short_at, shorts, sum_to, to_end}
+use Rattle.samoa_invariant.proofs.Lefts.{home-most}
+use Rattle.samoa_invariant.proofs.Points.{point_idle}
+use Rattle.samoa_invariant.proofs.Progress.{IsIn}
+use Rattle.samoa_core.specs.Room.{spare_of, to_come}
+use Rattle.samoa_core.proofs.Toll.{spare-most, sum-le}
 
--- the computations that are held are those that have ended and weren't cleared away
-abbrev pub AreHeld : Script → List Ext → ℕ → List Held → Type 0
-AreHeld script exts cleared comps = map (λ (h : Held). h.comp) comps ≡ map end_of (drop cleared (serial script exts).comps)
+-- all its handler steps were made
+all_made : (P : Play) (core : Core) (k : ℕ) → Invariant P core → k < core.count → core.ended k ≡ true → turns P k ≤ core.made k
+all_made P core k i lt ended =
+    let d : IsDone P core k = i.ended k lt ended in
+    let n : ℕ = core.made k in
+    let all : List Turn = (whole_of P k).world.turns in
+    let within : n ≤ length all = i.calls.made k lt in
+    let there : (point P k n).turns ≡ all = ap (λ (m : Machine). m.turns) (point_idle P k n d.idle.active) in
+    let first : (point P k n).turns ≡ take n all = turns-after (rules P k) (P.budget k) (stood P k (P.node k)) (P.root k) (P.args k) n within in
+    let long : length (take n all) ≡ length all = ap length (sym first ∙ there) in
+    let short = length-take-le n all within in
+    omega arith
 
-pub length-held : (script : Script) (exts : List Ext) (cleared : ℕ) (comps : List Held) → AreHeld script exts cleared comps
-    → length comps ≡ length exts - cleared
-length-held script exts cleared comps held =
-    sym (length-map comps (λ (h : Held). h.comp))
-    ∙ ap length held
-    ∙ length-map (drop cleared (serial script exts).comps) end_of
-    ∙ length-drop cleared (serial script exts).comps
-    ∙ ap (λ n. n - cleared) (length-comps script exts)
+no_shorts : (private local : ℕ → ℕ) (qs : List ℕ) → ((q : ℕ) → IsIn q qs → private q ≤ local q) → shorts private local qs ≡ zero
+no_shorts private local [] past = refl
+no_shorts private local (q ∷ qs) past =
+    let rest : shorts private local qs ≡ zero = no_shorts private local qs (λ r is. past r (inr is)) in
+    let le : private q ≤ local q = past q (inl refl) in
+    let here : short_at (nat_lt (local q) (private q)) ≡ zero = go (nat_lt (local q) (private q)) refl le in
+    omega (arith, rest, here)
+  where
+    go : (b : Bool) → nat_lt (local q) (private q) ≡ b → private q ≤ local q → short_at b ≡ zero
+    go true e le = let lt : local q < private q = ltb-true (local q) (private q) e in absurd (omega arith)
+    go false e le = refl
 
--- computation k is held at its place
-pub held_within : (script : Script) (exts : List Ext) (cleared k : ℕ) (comps : List Held) → AreHeld script exts cleared comps
-    → cleared < k → k ≤ length exts → k - 1 - cleared < length comps
-held_within script exts cleared k comps held kept ended = omega (arith, length-held script exts cleared comps held)
+either_right : (a : Bool) → (a || true) ≡ true
+either_right true = refl
+either_right false = refl
 
-pub held_at : (script : Script) (exts : List Ext) (cleared k : ℕ) (comps : List Held) (d : Held) → AreHeld script exts cleared comps
-    → cleared < k → k ≤ length exts → (get_or comps (k - 1 - cleared) d).comp ≡ end_of (get_or (serial script exts).comps (k - 1) no_ran)
-held_at script exts cleared k comps d held kept ended =
-    let rans = (serial script exts).comps in
-    let at : ℕ = k - 1 - cleared in
-    let within : at < length comps = held_within script exts cleared k comps held kept ended in
-    let below : at < length (map (λ (h : Held). h.comp) comps) = omega (arith, length-map comps (λ (h : Held). h.comp)) in
-    let place : cleared + at ≡ k - 1 = omega arith in
-    sym (get_or-map (λ (h : Held). h.comp) comps at d)
-    ∙ get_or_default (map (λ (h : Held). h.comp) comps) at d.comp (end_of no_ran) below
-    ∙ ap (λ (cs : List Computation). get_or cs at (end_of no_ran)) held
-    ∙ get_or-map end_of (drop cleared rans) at no_ran
-    ∙ ap end_of (get_or-drop cleared rans at no_ran ∙ ap (λ n. get_or rans n no_ran) place)
+in_any : (q : ℕ) (qs : List ℕ) → IsIn q qs → list_any (λ (r : ℕ). r == q) qs ≡ true
+in_any q [] never = absurd never
+in_any q (r ∷ rs) (inl e) = ap (λ (b : Bool). b || list_any (λ (s : ℕ). s == q) rs) (eq-eqb r q e)
+in_any q (r ∷ rs) (inr is) = ap (λ (b : Bool). (r == q) || b) (in_any q rs is) ∙ either_right (r == q)
 
--- nothing is held where all that has ended was cleared away
-pub none_held : (script : Script) (exts : List Ext) (n : ℕ) → n ≡ length exts → AreHeld script exts n []
-none_held script exts n all =
-    sym (ap (map end_of) (drop_all n (serial script exts).comps (omega (arith, length-comps script exts))))
+named_declared : (d : Decl) (q : ℕ) → IsSet d → IsIn q (named d) → 0 < weight d q
+named_declared (Decl.Set micros) q set is = some (declares (Decl.Set micros) q) (in_any q micros is)
+  where
+    some : (b : Bool) → b ≡ true → 0 < (if b then 1 else 0)
+    some true e = omega arith
+    some false e = cc
+named_declared (Decl.Bound bounds) q set is = absurd set
+named_declared (Decl.Route vertices roots edges) q set is = absurd set
 
-pub some_is : {X : Type 0} {x y : X} → Some x ≡ Some y → x ≡ y
-some_is h = cc
+ended-left : (P : Play) (core : Core) (k : ℕ) → Invariant P core → k < core.count → IsSet (P.decl k) → core.ended k ≡ true → left_of P core k ≤ 1
+ended-left P core k i lt set ended =
+    let d : IsDone P core k = i.ended k lt ended in
+    let made : turns P k ≤ core.made k = all_made P core k i lt ended in
+    let home : home_of P core k (next_step (core.comp k)) ≤ suc zero = home-most P core k (next_step (core.comp k)) in
+    let short : shorts (core.private k (P.node k)) (core.local (P.node k)) (named (P.decl k)) ≡ zero =
+    no_shorts (core.private k (P.node k)) (core.local (P.node k)) (named (P.decl k)) (λ q is.
+    let private = i.booked.private k (P.node k) q lt in
+    let past = d.past q (named_declared (P.decl k) q set is) in
+    omega (arith, private, past)) in
+    let end : to_end (core.ended k) ≡ zero = ap to_end ended in
+    omega (arith, made, home, short, end)
+
+one : ℕ → ℕ
+one j = 1
+
+ones : (n : ℕ) → sum_to one n ≡ n
+unfolding one
+ones zero = refl
+ones (suc n) = let rest : sum_to one n ≡ n = ones n in omega (arith, rest)
+
+pub ended-come : (P : Play) (core : Core) → Invariant P core → ((k : ℕ) → k < core.count → IsSet (P.decl k)) → AllEnded core → to_come P core ≤ 3 * core.count
+unfolding one
+ended-come P core i sets all =
+    let lefts : left P core ≤ sum_to one core.count = sum-le (left_of P core) one core.count (λ j lt. ended-left P core j i lt (sets j lt) (all j lt)) in
+    let spares : sum_to (spare_of P core) core.count ≤ sum_to one core.count = sum-le (spare_of P core) one core.count (λ j lt. spare-most core.stopped _) in
+    let count : sum_to one core.count ≡ core.count = ones core.count in
+    omega (arith, lefts, spares, count)

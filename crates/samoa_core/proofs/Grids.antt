@@ -1,8 +1,11 @@
 -- Lists with one row after another.
-use Rattle.std.proofs.Common.{◌≡◌, ◌≢◌, ◌⊎◌, inl, inr, ℕ, zero, suc, ◌+◌, ◌*◌, ◌<◌, ◌≤◌, refl, sym, ap, ◌∙◌, List, [], ◌∷◌, ◌++◌, length, set, Option, Some, None, length-append, arith, subst}
+use Rattle.std.proofs.Common.{◌≡◌, ◌≢◌, ◌⊎◌, inl, inr, ℕ, zero, suc, ◌+◌, ◌*◌, ◌<◌, refl, sym, ap, ◌∙◌, List, [], ◌∷◌, ◌++◌, length, get_or, set, Some, length-append, replicate, arith}
 use Rattle.std.specs.Prelude.{slice_get}
 use Rattle.std.proofs.lemmas.Nat.{mul-add-lt, same_from_place}
-use Rattle.samoa_core.specs.Slots.{Grid}
+use Rattle.std.proofs.lemmas.List.{length-replicate}
+use Rattle.samoa_invariant.specs.Slots.{At, put_at}
+use Rattle.samoa_invariant.proofs.Slots.{put_at-else, put_at-here}
+use Rattle.samoa_core.specs.Slots.{Grid, Row}
 
 set-same : {A : Type 0} (xs : List A) (i : ℕ) (x : A) → i < length xs → slice_get (set xs i x) i ≡ Some x
 set-same [] i x lt = absurd (omega (arith, lt))
@@ -16,7 +19,7 @@ set-other (y ∷ ys) zero (suc j) x ne = refl
 set-other (y ∷ ys) (suc i) zero x ne = refl
 set-other (y ∷ ys) (suc i) (suc j) x ne = set-other ys i j x (λ e. ne (ap suc e))
 
-length-set : {A : Type 0} (xs : List A) (i : ℕ) (x : A) → length (set xs i x) ≡ length xs
+pub length-set : {A : Type 0} (xs : List A) (i : ℕ) (x : A) → length (set xs i x) ≡ length xs
 length-set [] i x = refl
 length-set (y ∷ ys) zero x = refl
 length-set (y ∷ ys) (suc i) x = ap suc (length-set ys i x)
@@ -68,12 +71,12 @@ pub grid-same : {A : Type 0} (rows columns : ℕ) (cells : List A) (f g : ℕ �
 grid-same {A = A} rows columns cells f g e grid =
     record { size = grid.size; value = λ i j ri cj. grid.value i j ri cj ∙ ap (λ (y : A). Some y) (sym (e i j)) }
 
-slice_get-left : {A : Type 0} (xs ys : List A) (k : ℕ) → k < length xs → slice_get (xs ++ ys) k ≡ slice_get xs k
+pub slice_get-left : {A : Type 0} (xs ys : List A) (k : ℕ) → k < length xs → slice_get (xs ++ ys) k ≡ slice_get xs k
 slice_get-left [] ys k lt = absurd (omega (arith, lt))
 slice_get-left (x ∷ xs) ys zero lt = refl
 slice_get-left (x ∷ xs) ys (suc k) lt = slice_get-left xs ys k (omega (arith, lt))
 
-slice_get-right : {A : Type 0} (xs ys : List A) (k : ℕ) → slice_get (xs ++ ys) (length xs + k) ≡ slice_get ys k
+pub slice_get-right : {A : Type 0} (xs ys : List A) (k : ℕ) → slice_get (xs ++ ys) (length xs + k) ≡ slice_get ys k
 slice_get-right [] ys k = ap (λ (n : ℕ). slice_get ys n) (omega arith)
 slice_get-right (x ∷ xs) ys k =
     let place : suc (length xs) + k ≡ suc (length xs + k) = omega arith in
@@ -102,3 +105,73 @@ grid-row {A = A} rows columns cells row f grid as_long each =
         let size : length cells ≡ rows * columns = grid.size in
         let within : i * columns + j < rows * columns = grid-within rows columns i j before cj in
         slice_get-left {A = A} cells row (i * columns + j) (omega (arith, within, size)) ∙ grid.value i j before cj
+
+slice_get-replicate : {A : Type 0} (n : ℕ) (x : A) (k : ℕ) → k < n → slice_get (replicate n x) k ≡ Some x
+slice_get-replicate zero x k lt = absurd (omega (arith, lt))
+slice_get-replicate (suc n) x zero lt = refl
+slice_get-replicate (suc n) x (suc k) lt = slice_get-replicate n x k (omega (arith, lt))
+
+-- all are the same
+abbrev pub none_yet : ℕ → ℕ → ℕ
+none_yet v p = zero
+
+pub grid-zeros : (rows columns : ℕ) → Grid {A = ℕ} rows columns (replicate (rows * columns) 0) none_yet
+grid-zeros rows columns = record {
+  size = length-replicate (rows * columns) 0;
+  value = λ i j ri cj. slice_get-replicate (rows * columns) 0 (i * columns + j) (grid-within rows columns i j ri cj);
+}
+
+pub row-none : {A : Type 0} (f : ℕ → A) → Row 0 [] f
+row-none f = record { size = refl; value = λ i lt. absurd (omega (arith, lt)) }
+
+-- one item of a row is written
+pub row-set : {A : Type 0} (rows : ℕ) (cells : List A) (f g : ℕ → A) (k : ℕ) (x : A) → k < rows → Row rows cells f → g k ≡ x → ((i : ℕ) → i ≢ k → g i ≡ f i)
+    → Row rows (set cells k x) g
+row-set {A = A} rows cells f g k x lt row here others = record { size = length-set cells k x ∙ row.size; value = λ i below. go i below (same_or_not i k) }
+  where
+    go : (i : ℕ) → i < rows → (i ≡ k) ⊎ (i ≢ k) → slice_get (set cells k x) i ≡ Some (g i)
+    go i below (inl e) =
+        let size : length cells ≡ rows = row.size in
+        ap (λ (j : ℕ). slice_get (set cells k x) j) e ∙ (set-same {A = A} cells k x (omega (arith, lt, size)) ∙ sym (ap (λ (j : ℕ). Some (g j)) e ∙ ap (λ (y : A). Some y) here))
+    go i below (inr ne) = set-other {A = A} cells k i x ne ∙ (row.value i below ∙ ap (λ (y : A). Some y) (sym (others i ne)))
+
+pub row-same : {A : Type 0} (rows : ℕ) (cells : List A) (f g : ℕ → A) → ((i : ℕ) → g i ≡ f i) → Row rows cells f → Row rows cells g
+row-same {A = A} rows cells f g e row = record { size = row.size; value = λ i below. row.value i below ∙ ap (λ (y : A). Some y) (sym (e i)) }
+
+-- one cell of a table of numbers is put
+pub grid-put : {A : Type 0} (rows columns : ℕ) (cells : List A) (f : At A) (v p : ℕ) (x : A) → v < rows → p < columns → Grid rows columns cells f
+    → Grid rows columns (set cells (v * columns + p) x) (put_at f v p x)
+grid-put {A = A} rows columns cells f v p x lt below grid =
+    grid-set rows columns cells f (put_at f v p x) v p x lt below grid (put_at-here {A = A} f v p v p x refl refl)
+    (λ i j ne. put_at-else {A = A} f v p i j x ne)
+
+pub get_or-other : {A : Type 0} (xs : List A) (i j : ℕ) (x d : A) → j ≢ i → get_or (set xs i x) j d ≡ get_or xs j d
+get_or-other [] i j x d ne = refl
+get_or-other (y ∷ ys) zero zero x d ne = absurd (ne refl)
+get_or-other (y ∷ ys) zero (suc j) x d ne = refl
+get_or-other (y ∷ ys) (suc i) zero x d ne = refl
+get_or-other (y ∷ ys) (suc i) (suc j) x d ne = get_or-other ys i j x d (λ e. ne (ap suc e))
+
+-- the same where they are read
+pub grid-within_same : {A : Type 0} (rows columns : ℕ) (cells : List A) (f g : At A) → ((i j : ℕ) → i < rows → j < columns → g i j ≡ f i j) → Grid rows columns cells f
+    → Grid rows columns cells g
+grid-within_same {A = A} rows columns cells f g e grid =
+    record { size = grid.size; value = λ i j ri cj. grid.value i j ri cj ∙ ap (λ (y : A). Some y) (sym (e i j ri cj)) }
+
+-- one more item of a row
+pub row-push : {A : Type 0} (rows : ℕ) (cells : List A) (f g : ℕ → A) (x : A) → Row rows cells f → ((i : ℕ) → i < rows → g i ≡ f i) → g rows ≡ x
+    → Row (suc rows) (cells ++ x ∷ []) g
+row-push {A = A} rows cells f g x row same last =
+    let size : length cells ≡ rows = row.size in
+    record { size = omega (arith, size, length-append cells (x ∷ [])); value = λ i below. go i below (same_or_not i rows) }
+  where
+    go : (i : ℕ) → i < suc rows → (i ≡ rows) ⊎ (i ≢ rows) → slice_get (cells ++ x ∷ []) i ≡ Some (g i)
+    go i below (inl e) =
+        let size : length cells ≡ rows = row.size in
+        let at : i ≡ length cells + 0 = omega (arith, e, size) in
+        ap (λ (n : ℕ). slice_get (cells ++ x ∷ []) n) at
+        ∙ (slice_get-right {A = A} cells (x ∷ []) 0 ∙ sym (ap (λ (n : ℕ). Some (g n)) e ∙ ap (λ (y : A). Some y) last))
+    go i below (inr ne) =
+        let size : length cells ≡ rows = row.size in
+        let before : i < rows = omega (arith, below, ne) in
+        slice_get-left {A = A} cells (x ∷ []) i (omega (arith, before, size)) ∙ (row.value i before ∙ ap (λ (y : A). Some y) (sym (same i before)))

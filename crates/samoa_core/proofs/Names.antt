@@ -1,10 +1,9 @@
 -- The events that the outcomes of handler steps name are of the script.
-use Rattle.std.proofs.Common.{◌≡◌, ◌<◌, ◌≤◌, ◌⊎◌, inl, inr, ℕ, zero, suc, ◌+◌, List, [], ◌∷◌, drop, length, get_or, Option, Some, None, map, sym, ap, subst, refl, arith}
+use Rattle.std.proofs.Common.{◌≡◌, ◌<◌, ◌≤◌, ◌⊎◌, inl, inr, ℕ, zero, suc, ◌+◌, List, [], ◌∷◌, drop, length, Option, Some, None, sym, ap, subst, arith}
 use Rattle.std.specs.Prelude.{slice_get, slice_index}
 use Rattle.std.proofs.lemmas.List.{get_or_past, length-map}
 use Rattle.std.proofs.lemmas.List.Elements.{All-get_or}
 use Rattle.samoa_model.specs.declared.ids.EventId.{EventId}
-use Rattle.samoa_model.specs.declared.ids.HandlerId.{HandlerId}
 use Rattle.samoa_model.specs.declared.handler.Moment.{Moment}
 use Rattle.samoa_model.specs.declared.handler.Moment.TheVariants.{Begin, Resume}
 use Rattle.samoa_model.specs.declared.setup.Kind.{Kind}
@@ -18,7 +17,7 @@ use Rattle.samoa_model.specs.declared.script.Script.{Script}
 use Rattle.samoa_model.specs.Scripts.{Table, first_table, micro_at, setup_of, no_micro}
 use Rattle.samoa_model.specs.Range.{IsInRange, IsMicroInRange, IsEventOf}
 use Rattle.samoa_serial.specs.State.{State, Registers, Blank}
-use Rattle.samoa_serial.specs.Kinds.{Numbers, port_at, number_at, with_number, carry_out, run_from, script_step, kind_step, first_four, waited, resumed}
+use Rattle.samoa_serial.specs.Kinds.{Numbers, port_at, carry_out, run_from, script_step, kind_step, first_four, waited, resumed}
 use Rattle.samoa_calls.specs.Handed.{IsNamed}
 
 -- each port is an event of the table

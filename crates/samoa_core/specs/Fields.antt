@@ -1,26 +1,33 @@
 -- The fields of a core, as plain data.
 use Rattle.std.specs.Prelude.{vec_capacity}
-use Rattle.samoa_core.specs.declared.steps.Core.TheInside.{Inside}
-use Rattle.samoa_core.specs.Course.{Course}
-use Rattle.samoa_core.specs.Kept.{Fields, Kept, course_of}
+use Rattle.samoa_core.specs.declared.kernel.Core.TheInside.{Inside}
+use Rattle.samoa_invariant.specs.Runs.{Trace}
+use Rattle.samoa_core.specs.Kept.{Fields, Kept, trace_of}
 
 abbrev pub fields_of : {B : Type 0} → Inside B → Fields
 fields_of a = record {
   script = a.script;
-  tables = a.tables;
-  slots = a.slots;
-  exts = a.exts.items;
-  exts_room = vec_capacity a.exts;
-  comps = a.comps.items;
-  comps_room = vec_capacity a.comps;
-  cleared = a.cleared;
   cells = a.cells;
   held = a.held;
-  present = a.present;
+  tables = a.tables;
+  slots = a.slots;
+  global = a.global.items;
+  local = a.local.items;
+  exts = a.exts.items;
+  clears = a.clears.items;
+  clears_room = vec_capacity a.clears;
+  journal = a.journal.items;
+  journal_room = vec_capacity a.journal;
+  promised = a.promised;
+  first = a.first;
+  comps = a.comps.items;
+  private = a.private.items;
+  ended = a.ended.items;
+  stopped = a.stopped;
 }
 
-abbrev pub course_in : {B : Type 0} → Inside B → Course
-course_in a = course_of (fields_of a)
+abbrev pub trace_in : {B : Type 0} → Inside B → Trace
+trace_in a = trace_of (fields_of a)
 
 abbrev pub IsKept : {B : Type 0} → Inside B → Type 0
 IsKept a = Kept (fields_of a)

@@ -1,6 +1,10 @@
-pub mod Course
-pub mod Fields
-pub mod Home
-pub mod Kept
-pub mod Opened
+pub mod Known
+pub mod Admission
+pub mod Since
+pub mod Places
+pub mod Turns
+pub mod Scans
+pub mod Room
 pub mod Slots
+pub mod Kept
+pub mod Fields

@@ -36,3 +36,8 @@ row_of script node = map (set_up_at script node) script.micros
 abbrev pub rows_of : Script → ℕ → List (Option Seen)
 rows_of script zero = []
 rows_of script (suc nodes) = rows_of script nodes ++ row_of script nodes
+
+-- a list holds the values of a function
+pub record Row {A : Type 0} (rows : ℕ) (cells : List A) (f : ℕ → A) : Type 0 where
+  pub size : length cells ≡ rows
+  pub value : (i : ℕ) → i < rows → slice_get cells i ≡ Some (f i)

@@ -1,11 +1,15 @@
-//! A core, which admits computations and makes their steps.
+//! A core, which has several computations open at once and makes their steps.
 #![tactic(auto)]
 
-mod open;
+mod admission;
+mod answers;
+mod cells;
+mod kernel;
+mod moves;
 mod parts;
+mod scans;
 mod slots;
-mod steps;
 mod turn;
 
-pub use steps::Core;
+pub use kernel::Core;
 pub use turn::{Ran, Turn};

@@ -1,11 +1,17 @@
 //! The parts of a script that an admission is judged by.
-ghost use Rattle.std.specs.Prelude.{◌≡◌, ◌<◌, ◌≤◌, length};
+ghost use Rattle.std.specs.Prelude.{◌≡◌, ◌<◌, ◌≤◌, length, Some, slice_get, set};
 ghost use Rattle.samoa_model.specs.Cells.{cells_of as computation_cells};
-ghost use Rattle.samoa_model.specs.Range.{IsCauseOf, IsExtOf, IsInRange};
-ghost use Rattle.samoa_model.specs.Scripts.{decl_at, decl_of, root_of as root_event};
-ghost use Rattle.samoa_core.specs.Opened.{decl_number as declaration_number};
+ghost use Rattle.samoa_model.specs.Range.{IsBuilt, IsCauseOf, IsExtOf, IsInRange};
+ghost use Rattle.samoa_model.specs.Scripts.{decl_at, decl_of, first_table, root_of as root_event};
+ghost use Rattle.samoa_bind.specs.Bound.{first_tables};
+ghost use Rattle.samoa_calls.specs.Held.{Held};
+ghost use Rattle.samoa_calls.specs.Handed.{AreNamed, IsNamed};
+ghost use Rattle.samoa_core.specs.Turns.{IsReady, taken};
+ghost use Rattle.samoa_core.specs.Known.{decl_number as declaration_number};
 
-use samoa_model::{Cause, DeclDef, EventId, Ext, Script};
+use samoa_bind::Tables;
+use samoa_calls::Comp;
+use samoa_model::{Cause, DeclDef, EventId, Ext, NodeId, Outcome, Script};
 
 /// The event that is called when a computation begins.
 pub(crate) fn root_of(script: &Script, cause: Cause) -> EventId
@@ -46,4 +52,42 @@ pub(crate) fn cells_of(script: &Script, ext: &Ext) -> u32
 {
     let number = decl_number(script, ext);
     16 * decl_in(script, number).budget + 16
+}
+
+/// A computation takes the outcome of its handler step.
+pub(crate) fn take_in(
+    comps: &mut Vec<Comp>,
+    at: usize,
+    script: &Script,
+    tables: &Tables,
+    node: NodeId,
+    outcome: Outcome,
+)
+    requires there { at < length comps.old.items }
+    requires in_range { IsInRange script.now }
+    requires built { IsBuilt script.now }
+    requires tables { tables.now ≡ first_tables script.now }
+    requires node { node.0 < script.now.nodes }
+    requires ready { (h : Held) → slice_get comps.old.items at ≡ Some h → IsReady script.now h }
+    requires named { IsNamed (first_table script.now) outcome }
+    ensures taken { (h : Held) → slice_get comps.old.items at ≡ Some h
+        → comps.new.items ≡ set comps.old.items at (taken script.now h outcome) }
+    ensures named { (h : Held) → slice_get comps.old.items at ≡ Some h
+        → AreNamed (first_table script.now) (taken script.now h outcome).comp.waiting }
+{
+    go_on(&mut comps[at], script, tables, node, outcome);
+}
+
+fn go_on(comp: &mut Comp, script: &Script, tables: &Tables, node: NodeId, outcome: Outcome)
+    requires in_range { IsInRange script.now }
+    requires built { IsBuilt script.now }
+    requires tables { tables.now ≡ first_tables script.now }
+    requires node { node.0 < script.now.nodes }
+    requires ready { IsReady script.now comp.old }
+    requires named { IsNamed (first_table script.now) outcome }
+    ensures taken { comp.new ≡ taken script.now comp.old outcome }
+    ensures named { AreNamed (first_table script.now) comp.new.comp.waiting }
+{
+    let decl = decl_in(script, comp.decl());
+    comp.take_outcome(&decl.decl, tables, node, 0, outcome);
 }

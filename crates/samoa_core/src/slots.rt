@@ -1,5 +1,5 @@
 //! The slots of all nodes, each with its microprotocol.
-ghost use Rattle.std.specs.Prelude.{◌≡◌, ◌+◌, ◌*◌, ◌<◌, ◌≤◌, ◌++◌, map, length, Some, None, false, IfOk, OnOk, slice_get, set, count_by, if◌then◌else◌};
+ghost use Rattle.std.specs.Prelude.{◌≡◌, ◌+◌, ◌*◌, ◌<◌, ◌≤◌, ◌++◌, map, length, Option, Some, None, is_some, false, IfOk, OnOk, slice_get, set, count_by, if◌then◌else◌};
 ghost use Rattle.samoa_model.specs.declared.setup.Kind.{Kind};
 ghost use Rattle.samoa_serial.specs.Kinds.{Seen, set_up_as, shown};
 ghost use Rattle.samoa_micro.specs.Covers.{Covers, count_of};
@@ -65,6 +65,15 @@ impl<B: Micro> Slots<B> {
     {
         let slot = node.0 as usize * self.micros + micro as usize;
         self.boxes[slot] = Some(held);
+    }
+
+    /// Whether the microprotocol of a slot is there.
+    pub(crate) fn is_home(&self, node: NodeId, micro: u32) -> bool
+        requires { node.0 * self.now.micros + micro < length self.now.boxes }
+        ensures { (slot : Option Seen) → slice_get self.now.boxes (node.0 * self.now.micros + micro) ≡ Some slot → result ≡ is_some slot }
+    {
+        let slot = node.0 as usize * self.micros + micro as usize;
+        self.boxes[slot].is_some()
     }
 
     /// What the microprotocol of a slot shows.

@@ -19,7 +19,7 @@ pub struct Turn<B: Micro> {
 
 impl<B: Micro> Model for Turn<B> {
     ghost use Rattle.std.specs.Prelude.{◌≡◌, false};
-    ghost use Rattle.samoa_core.specs.Course.{Going};
+    ghost use Rattle.samoa_core.specs.Turns.{Going};
 
     ghost Value = { Going };
 
@@ -42,7 +42,7 @@ pub struct Ran<B: Micro> {
 impl<B: Micro> Model for Ran<B> {
     ghost use Rattle.std.specs.Prelude.{◌≡◌, false};
     ghost use Rattle.samoa_serial.specs.Kinds.{after_step, outcome_of};
-    ghost use Rattle.samoa_core.specs.Course.{Going};
+    ghost use Rattle.samoa_core.specs.Turns.{Going};
 
     ghost Value = { Going };
 
@@ -76,6 +76,18 @@ impl<B: Micro> Turn<B> {
         ensures { result ≡ self.now.micro }
     {
         self.micro
+    }
+
+    pub(crate) fn into_held(self) -> Held<B>
+        ensures { result ≡ self.before }
+    {
+        let Turn {
+            comp: _,
+            micro: _,
+            moment: _,
+            held,
+        } = self;
+        held
     }
 
     /// Makes one step of the microprotocol. Where there was no memory, the turn comes back as it was.
@@ -113,6 +125,12 @@ impl<B: Micro> Turn<B> {
 }
 
 impl<B: Micro> Ran<B> {
+    pub(crate) fn comp(&self) -> u32
+        ensures { result ≡ self.now.comp }
+    {
+        self.comp
+    }
+
     pub(crate) fn micro(&self) -> u32
         ensures { result ≡ self.now.micro }
     {

@@ -1,10 +1,7 @@
-use Rattle.std.proofs.Common.{◌≡◌, ◌<◌, ◌≤◌, ◌+◌, ◌++◌, ◌∷◌, [], ◌∙◌, ap, arith, append-nil, length, refl, rules, subst, sym, Some, take, map, add-zero, List, Option, ℕ}
+use Rattle.std.proofs.Common.{◌≡◌, ◌<◌, ◌+◌, ◌∙◌, ap, arith, append-nil, length, sym, take, add-zero, List, ℕ}
 use Rattle.std.proofs.lemmas.List.{take_all}
-use Rattle.samoa_model.specs.declared.setup.Kind.{Kind}
 use Rattle.samoa_model.specs.declared.script.MicroDef.{MicroDef}
-use Rattle.samoa_serial.specs.Kinds.{Seen}
 use Rattle.samoa_micro.specs.Covers.{count_of}
-use Rattle.samoa_core.specs.Slots.{set_up_at}
 use Rattle.samoa_core.proofs.Draws.{kinds_in, covers_next, covers_rest, counts_more, filled_more}
 use Rattle.samoa_core.proofs.slots.fill_node.Goals as goal
 

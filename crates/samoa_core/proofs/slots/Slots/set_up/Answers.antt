@@ -1,7 +1,5 @@
-use Rattle.std.proofs.Common.{◌≡◌, ◌<◌, ◌≤◌, ◌-◌, ◌*◌, ◌++◌, ◌∙◌, ap, add-one, arith, refl, rules, sym, subst, ℕ, List, Option}
-use Rattle.samoa_serial.specs.Kinds.{Seen}
-use Rattle.samoa_core.specs.Slots.{rows_of}
-use Rattle.samoa_core.proofs.Draws.{kinds_in, share_there, shares_left}
+use Rattle.std.proofs.Common.{add-one, arith, refl}
+use Rattle.samoa_core.proofs.Draws.{share_there, shares_left}
 use Rattle.samoa_core.proofs.slots.Slots.set_up.Goals as goal
 
 pub loop-node-init : goal.loop-node-init

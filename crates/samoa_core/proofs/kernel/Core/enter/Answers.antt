@@ -1,0 +1,34 @@
+use Rattle.std.proofs.Common.{◌-◌, ap}
+use Rattle.samoa_model.specs.declared.ids.MicroId.{MicroId}
+use Rattle.samoa_model.specs.declared.handler.Moment.{Moment}
+use Rattle.samoa_model.specs.declared.record.Step.{Step}
+use Rattle.samoa_invariant.specs.Runs.{state}
+use Rattle.samoa_invariant.proofs.Traces.{fewer}
+use Rattle.samoa_core.specs.Turns.{Going}
+use Rattle.samoa_core.proofs.Facts.{IsCallOf, IsSound, call_of}
+use Rattle.samoa_core.proofs.Going.{away-entered}
+use Rattle.samoa_core.proofs.kernel.Core.enter.Goals as goal
+
+pub returns-clause-away : goal.returns-clause-away
+returns-clause-away g c =
+    let sound : IsSound c.args.self.now = record {
+      run = c.admitted-admitted.ensures.run;
+      all = c.admitted-admitted.ensures.all;
+      declares = c.admitted-admitted.ensures.declares;
+      past = c.admitted-admitted.ensures.past;
+    } in
+    let step : MicroId × Moment = (c.due-moment.result.0, c.due-moment.result.1) in
+    let is : IsCallOf ((state c.args.self.now).comp (c.args.comp - 1)) step = call_of ((state c.args.self.now).comp (c.args.comp - 1)) step c.due-moment.ensures.next in
+    let going : Going = record { comp = c.args.comp; micro = step.0.0; moment = step.1; before = c.go_out-held.result } in
+    rw (c.go_out-held.ensures.step, c.new.ensures)
+    (away-entered c.args.self.now going is.call sound.run c.requires.due.1.number is.next (ap (λ (x : MicroId). x.0) is.is_at) c.go_out-held.ensures.held)
+
+pub returns-clause-fewer : goal.returns-clause-fewer
+returns-clause-fewer g c =
+    let sound : IsSound c.args.self.now = record {
+      run = c.admitted-admitted.ensures.run;
+      all = c.admitted-admitted.ensures.all;
+      declares = c.admitted-admitted.ensures.declares;
+      past = c.admitted-admitted.ensures.past;
+    } in
+    rw c.go_out-held.ensures.step (fewer c.args.self.now (Step.Enter c.args.comp c.due-moment.result.0.0) sound.run tt c.due-moment.ensures.due)

@@ -1,0 +1,28 @@
+use Rattle.std.proofs.Common.{arith, ◌≡◌, ◌≤◌, ◌<◌, ℕ, length, ap, sym, refl, true, List}
+use Rattle.samoa_model.specs.declared.record.Step.{Step}
+use Rattle.samoa_invariant.specs.Runs.{Trace, state}
+use Rattle.samoa_invariant.proofs.Traces.{invariant}
+use Rattle.samoa_core.specs.Since.{cleared_comps}
+use Rattle.samoa_core.specs.Scans.{with_journal}
+use Rattle.samoa_core.proofs.Settling.{IsFit, fit}
+use Rattle.samoa_core.proofs.Tests.{skip_releases}
+use Rattle.samoa_core.proofs.kernel.Core.release_each.Goals as goal
+
+pub loop-comp-init : goal.loop-comp-init
+loop-comp-init g c =
+    let t : Trace = c.args.self.now in
+    let is : c.cleared-comp.result ≡ cleared_comps t = c.cleared-comp.ensures in
+    let past : (k : ℕ) → k < c.cleared-comp.result → (state t).ended k ≡ true =
+    λ k lt. c.admitted-admitted.ensures.past k (omega (arith, lt, is)) in
+    let all : (state t).count ≡ length t.exts = c.admitted-admitted.ensures.all in
+    let most : cleared_comps t ≤ length t.exts = c.admitted-admitted.ensures.cleared in
+    let count : c.admitted-admitted.result ≡ length t.exts = c.admitted-admitted.ensures.count in
+    let fits : IsFit t = fit t c.admitted-admitted.ensures.in_range c.admitted-admitted.ensures.built c.admitted-admitted.ensures.declares c.admitted-admitted.ensures.known in
+    record {
+      fact = sym (ap (λ (xs : List Step). with_journal t xs) (skip_releases t c.cleared-comp.result (invariant t c.admitted-admitted.ensures.run) (omega (arith, is, all, most)) (λ k lt. fits.sets k (omega (arith, lt, all))) past));
+      cleared = refl;
+      not_more = omega arith;
+      low = omega (arith, is);
+      below = omega (arith, is, most, count);
+      most = count;
+    }

@@ -1,0 +1,215 @@
+//! Admissions.
+ghost use Rattle.std.specs.Prelude.{◌≡◌, ℕ, ◌<◌, ◌≤◌, ◌+◌, ◌-◌, ◌*◌, ◌^◌, ◌++◌, ◌∷◌, [], length, get_or, set, IfOk, IfErr, OnOk, OnErr, vec_capacity};
+ghost use Rattle.samoa_model.specs.Cells.{cells_of as computation_cells};
+ghost use Rattle.samoa_model.specs.Range.{IsBuilt, IsExtOf, IsInRange, IsSet};
+ghost use Rattle.samoa_model.specs.declared.script.Decl.{Decl};
+ghost use Rattle.samoa_model.specs.declared.record.Step.{Step};
+ghost use Rattle.samoa_model.specs.Scripts.{decl_of};
+ghost use Rattle.samoa_bind.specs.Bound.{first_tables};
+ghost use Rattle.samoa_invariant.specs.State.{named};
+ghost use Rattle.samoa_invariant.specs.Runs.{Trace, play, state};
+ghost use Rattle.samoa_core.specs.Admission.{admitted, raised, started, steps_of as steps_to_come, taken_versions, version_after};
+
+use crate::cells::weight;
+use crate::kernel::Core;
+use crate::parts::{cells_of, decl_in, decl_number, root_of};
+use samoa_bind::Tables;
+use samoa_calls::Comp;
+use samoa_micro::Micro;
+use samoa_model::{Decl, DeclDef, Ext, NoMemory, Script, Step};
+use std::alloc::Global;
+
+impl<B: Micro> Core<B> {
+    /// Admits a computation, where its cells are free and fewer than 100,000 were admitted. Answers its number, from 1.
+    /// Its versions are taken in this one step, and afterwards none of its steps takes memory. Where there was no memory,
+    /// nothing has changed.
+    pub fn admit(&mut self, alloc: Global, ext: Ext) -> Result<u32, (Ext, NoMemory)>
+        requires fits { (state self.old).cells + computation_cells self.old.script ext ≤ self.old.cells }
+        requires few { length self.old.exts < 100000 }
+        requires known { IsExtOf self.old.script ext }
+        ensures number { IfOk result (λ comp. comp ≡ length self.old.exts + 1) }
+        ensures step { OnOk result (self.new ≡ admitted self.old ext) }
+        ensures back { IfErr result (λ e. e.0 ≡ ext) }
+        ensures err { OnErr result (self.new ≡ self.old) }
+    {
+        match prepared(
+            alloc,
+            &self.script,
+            &self.tables,
+            self.promised,
+            &ext,
+            &mut self.exts,
+            &mut self.comps,
+            &mut self.ended,
+            &mut self.private,
+            &mut self.clears,
+            &mut self.journal,
+        ) {
+            Ok((comp, promised)) => {
+                versions_of(&self.script, &ext, &mut self.global, &mut self.private);
+                self.held += cells_of(&self.script, &ext);
+                self.promised = promised;
+                self.exts.push_reserved(ext);
+                self.comps.push_reserved(comp);
+                self.ended.push_reserved(false);
+                let comp = self.exts.len() as u32;
+                self.journal.push_reserved(Step::Admit { comp });
+                Ok(comp)
+            }
+            Err(fault) => Err((ext, fault)),
+        }
+    }
+}
+
+/// Begins one more computation and makes room for it and for all its steps, or answers want of memory. Answers too how
+/// many steps room is kept for from then on.
+fn prepared(
+    alloc: Global,
+    script: &Script,
+    tables: &Tables,
+    promised: u64,
+    ext: &Ext,
+    exts: &mut Vec<Ext>,
+    comps: &mut Vec<Comp>,
+    ended: &mut Vec<bool>,
+    private: &mut Vec<u64>,
+    clears: &mut Vec<u64>,
+    journal: &mut Vec<Step>,
+) -> Result<(Comp, u64), NoMemory>
+    requires in_range { IsInRange script.now }
+    requires built { IsBuilt script.now }
+    requires tables { tables.now ≡ first_tables script.now }
+    requires known { IsExtOf script.now ext.now }
+    ensures comp { IfOk result (λ r. r.0 ≡ started script.now ext.now) }
+    ensures none_waits { IfOk result (λ r. r.0.comp.waiting ≡ []) }
+    ensures promised { IfOk result (λ r. r.1 ≡ promised + steps_to_come (decl_of script.now ext.now)) }
+    ensures steps_room { IfOk result (λ r. length journal.new.items + 1 + r.1 ≤ vec_capacity journal.new) }
+    ensures exts_room { OnOk result (length exts.new.items < vec_capacity exts.new) }
+    ensures comps_room { OnOk result (length comps.new.items < vec_capacity comps.new) }
+    ensures ended_room { OnOk result (length ended.new.items < vec_capacity ended.new) }
+    ensures clears_room { OnOk result (length clears.new.items < vec_capacity clears.new) }
+    ensures private_room { OnOk result (length private.new.items + length script.now.micros ≤ vec_capacity private.new) }
+    ensures exts { exts.new.items ≡ exts.old.items }
+    ensures comps { comps.new.items ≡ comps.old.items }
+    ensures ended { ended.new.items ≡ ended.old.items }
+    ensures private { private.new.items ≡ private.old.items }
+    ensures clears { clears.new.items ≡ clears.old.items }
+    ensures clears_kept { vec_capacity clears.old ≤ vec_capacity clears.new }
+    ensures journal { journal.new.items ≡ journal.old.items }
+    ensures journal_kept { vec_capacity journal.old ≤ vec_capacity journal.new }
+{
+    let more = steps_for(decl_in(script, decl_number(script, ext)))?;
+    let promised = sum(promised, more)?;
+    let steps = sum(promised, 1)?;
+    exts.reserve(1)?;
+    comps.reserve(1)?;
+    ended.reserve(1)?;
+    private.reserve(script.micros.len())?;
+    clears.reserve(1)?;
+    journal.reserve(steps as usize)?;
+    let comp = begun(alloc, script, tables, ext)?;
+    Ok((comp, promised))
+}
+
+/// Begins the computation of an admission. All room that it can need is made, or there was no memory.
+fn begun(alloc: Global, script: &Script, tables: &Tables, ext: &Ext) -> Result<Comp, NoMemory>
+    requires in_range { IsInRange script.now }
+    requires built { IsBuilt script.now }
+    requires tables { tables.now ≡ first_tables script.now }
+    requires known { IsExtOf script.now ext.now }
+    ensures comp { IfOk result (λ comp. comp ≡ started script.now ext.now) }
+    ensures none_waits { IfOk result (λ comp. comp.comp.waiting ≡ []) }
+{
+    let number = decl_number(script, ext);
+    let decl = decl_in(script, number);
+    let root = root_of(script, ext.cause);
+    let mut comp = Comp::new(alloc, number, decl.budget)?;
+    let handlers = tables.resolve(ext.node, 0, root);
+    comp.start(&decl.decl, handlers, root, ext.args);
+    Ok(comp)
+}
+
+/// The sum, where it is a number of the machine; no memory has room for more.
+fn sum(a: u64, b: u64) -> Result<u64, NoMemory>
+    ensures { IfOk result (λ c. c ≡ a + b) }
+{
+    match a.checked_add(b) {
+        Some(c) => Ok(c),
+        None => Err(NoMemory),
+    }
+}
+
+/// How many steps room is kept for of a computation under this declaration.
+fn steps_for(decl: &DeclDef) -> Result<u64, NoMemory>
+    requires budget { decl.now.budget ≤ 256 }
+    requires set { IsSet decl.now.decl }
+    ensures { IfOk result (λ steps. steps ≡ steps_to_come decl.now) }
+{
+    let fixed = 10 * u64::from(decl.budget) + 12;
+    sum(fixed, declared_count(&decl.decl) as u64)
+}
+
+/// How many microprotocols a set names.
+fn declared_count(decl: &Decl) -> usize
+    requires { IsSet decl.now }
+    ensures { result ≡ length (named decl.now) }
+{
+    match decl {
+        Decl::Set { micros } => micros.len(),
+        _ => unreachable!(),
+    }
+}
+
+/// Takes the versions of the node of an admission for its computation.
+fn versions_of(script: &Script, ext: &Ext, global: &mut Vec<u64>, private: &mut Vec<u64>)
+    requires in_range { IsInRange script.now }
+    requires built { IsBuilt script.now }
+    requires known { IsExtOf script.now ext.now }
+    requires there { length global.old.items ≡ script.now.nodes * length script.now.micros }
+    requires small { (p : ℕ) → p < length script.now.micros → get_or global.old.items (ext.now.node.0 * length script.now.micros + p) 0 + 1 < 2 ^ 64 }
+    requires room { length private.old.items + length script.now.micros ≤ vec_capacity private.old }
+    ensures global { global.new.items ≡ raised (decl_of script.now ext.now).decl (length script.now.micros) ext.now.node.0 global.old.items (length script.now.micros) }
+    ensures private { private.new.items ≡ private.old.items ++ taken_versions (decl_of script.now ext.now).decl (length script.now.micros) ext.now.node.0 global.old.items (length script.now.micros) }
+{
+    let number = decl_number(script, ext);
+    let decl = decl_in(script, number);
+    take_versions(&decl.decl, script.micros.len(), ext.node.0, global, private);
+}
+
+/// Takes the versions of a node for one more computation: each version rises by what the declaration allows of its
+/// microprotocol, and the computation's own version there is what it has risen to.
+fn take_versions(
+    decl: &Decl,
+    columns: usize,
+    node: u32,
+    global: &mut Vec<u64>,
+    private: &mut Vec<u64>,
+)
+    requires set { IsSet decl.now }
+    requires there { node * columns + columns ≤ length global.old.items }
+    requires small { (p : ℕ) → p < columns → get_or global.old.items (node * columns + p) 0 + 1 < 2 ^ 64 }
+    requires few { columns ≤ 24 }
+    requires room { length private.old.items + columns ≤ vec_capacity private.old }
+    ensures global { global.new.items ≡ raised decl.now columns node global.old.items columns }
+    ensures private { private.new.items ≡ private.old.items ++ taken_versions decl.now columns node global.old.items columns }
+{
+    let mut micro = 0;
+    while (micro as usize) < columns {
+        let version = take_version(decl, columns, node, micro, global);
+        private.push_reserved(version);
+        micro += 1;
+    }
+}
+
+fn take_version(decl: &Decl, columns: usize, node: u32, micro: u32, global: &mut Vec<u64>) -> u64
+    requires set { IsSet decl.now }
+    requires there { node * columns + micro < length global.old.items }
+    requires small { get_or global.old.items (node * columns + micro) 0 + 1 < 2 ^ 64 }
+    ensures version { result ≡ version_after decl.now columns node global.old.items micro }
+    ensures raised { global.new.items ≡ set global.old.items (node * columns + micro) result }
+{
+    let at = node as usize * columns + micro as usize;
+    let version = global[at] + weight(decl, micro);
+    global[at] = version;
+    version
+}
