@@ -1,6 +1,6 @@
 -- One computation more is written and counted.
-use Rattle.std.proofs.Common.{◌≡◌, ℕ, ◌+◌, ◌-◌, ◌*◌, ◌^◌, ◌<◌, ◌≤◌, Bool, List, [], ◌∷◌, ◌++◌, length, length-take, get_or, take, drop, Some, refl, sym, ap, ◌∙◌, arith, slice_get, count_by}
-use Rattle.std.proofs.lemmas.List.{drop_more, length-take-le}
+use Rattle.std.proofs.Common.{◌≡◌, ℕ, ◌+◌, ◌-◌, ◌*◌, ◌^◌, ◌<◌, ◌≤◌, Bool, List, [], ◌∷◌, ◌++◌, length, length-take, get_or, take, drop, Some, refl, sym, ap, ◌∙◌, arith, append_assoc, append-nil, slice_get, count_by}
+use Rattle.std.proofs.lemmas.List.{drop_all, drop_more, length-take-le}
 use Rattle.std.proofs.lemmas.List.Sums.{count_by-le-length}
 use Rattle.std.proofs.lemmas.Option.{slice_get_within, get_or_from_slice_get}
 use Rattle.samoa_model.specs.declared.record.Entry.{Entry}
@@ -17,7 +17,7 @@ use Rattle.samoa_run.specs.declared.totals.Totals.{Totals}
 use Rattle.samoa_run.specs.Running.{AreTotals, Counts, later_text, next_ran, next_text}
 use Rattle.samoa_run.proofs.EntryBound.{entries_of_ran-at_most}
 use Rattle.samoa_run.proofs.EntrySteps.{take_one_more}
-use Rattle.samoa_run.proofs.LaterText.{later_text-first}
+use Rattle.samoa_run.proofs.LaterText.{later_text-first, later_text-none}
 
 -- this was admitted to a core for the script, after k others
 pub record IsAt (script : Script) (core : Trace) (k : ℕ) (ext : Ext) : Type 0 where
@@ -104,3 +104,20 @@ totals_more script core k ext before after is are counts =
       deliveries = omega (arith, counts.deliveries, are.deliveries, own is_delivery, sum is_delivery);
       refusals = omega (arith, counts.refusals, are.refusals, own is_refusal, sum is_refusal);
     }
+
+-- what was written, and what is still to be written
+pub text_more : (script : Script) (calls : Bool) (core : Trace) (k : ℕ) (ext : Ext) (before after all : List ℕ) → IsAt script core k ext
+    → before ++ later_text script calls (take k core.exts) (drop k core.exts) ≡ all → after ≡ before ++ comp_text script calls (k + 1) ext (served_at core (k + 1))
+    → after ++ later_text script calls (take (k + 1) core.exts) (drop (k + 1) core.exts) ≡ all
+text_more script calls core k ext before after all is so_far one =
+    let own : List ℕ = comp_text script calls (k + 1) ext (served_at core (k + 1)) in
+    let rest : List ℕ = later_text script calls (take (k + 1) core.exts) (drop (k + 1) core.exts) in
+    ap (λ (t : List ℕ). t ++ rest) one
+    ∙ (append_assoc before own rest ∙ (ap (λ (t : List ℕ). before ++ t) (sym (text_at script calls core k ext is)) ∙ so_far))
+
+-- nothing is still to be written
+pub text_all : (script : Script) (calls : Bool) (exts : List Ext) (k : ℕ) (text all : List ℕ) → length exts ≤ k
+    → text ++ later_text script calls (take k exts) (drop k exts) ≡ all → text ≡ all
+text_all script calls exts k text all past so_far =
+    sym (append-nil text)
+    ∙ (ap (λ (t : List ℕ). text ++ t) (sym (ap (later_text script calls (take k exts)) (drop_all k exts past) ∙ later_text-none script calls (take k exts))) ∙ so_far)

@@ -1,11 +1,18 @@
 -- Admissions to a core in which nothing is out.
-use Rattle.std.proofs.Common.{arith, ◌≡◌, ℕ, zero, suc, ◌+◌, ◌-◌, ◌*◌, ◌<◌, ◌≤◌, max, refl, sym, ap, ◌∙◌, List, [], ◌∷◌, ◌++◌, append_assoc, append-nil, length, get_or, Some, slice_get, take}
+use Rattle.std.proofs.Common.{arith, ◌≡◌, ℕ, zero, suc, ◌+◌, ◌-◌, ◌*◌, ◌<◌, ◌≤◌, max, refl, sym, ap, ◌∙◌, List, [], ◌∷◌, ◌++◌, append_assoc, append-nil, length, map, get_or, Some, slice_get, take, subst}
+use Rattle.std.specs.List.{All}
+use Rattle.std.specs.Prelude.{option_map}
+use Rattle.std.proofs.lemmas.List.{get_or-map, length-map}
+use Rattle.std.proofs.lemmas.List.Elements.{All-get_or}
+use Rattle.std.proofs.lemmas.Option.{slice_get-map, slice_get-get_or}
 use Rattle.samoa_model.specs.declared.record.Ext.{Ext}
 use Rattle.samoa_model.specs.declared.record.Step.{Step}
 use Rattle.samoa_model.specs.declared.script.DeclDef.{DeclDef}
+use Rattle.samoa_model.specs.declared.script.DoDef.{DoDef}
 use Rattle.samoa_model.specs.declared.script.Script.{Script}
 use Rattle.samoa_model.specs.Cells.{cells_of, greatest_budget, need}
 use Rattle.samoa_model.specs.Scripts.{decl_of, no_decl}
+use Rattle.samoa_serial.specs.History.{ext_of}
 use Rattle.samoa_invariant.specs.State as model
 use Rattle.samoa_invariant.specs.Runs.{IsRun, Trace, ext_at, play, state, with_ext}
 use Rattle.samoa_invariant.proofs.Traces.{is_run-with_ext, state-ext, state-step}
@@ -59,3 +66,15 @@ budget_within (d ∷ decls) (suc n) = let rest = budget_within decls n in omega 
 pub one_fits : (script : Script) (ext : Ext) (held cells : ℕ) → held ≡ 0 → need script ≤ cells → held + cells_of script ext ≤ cells
 one_fits script ext held cells none room =
     let most : (decl_of script ext).budget ≤ greatest_budget script.decls = budget_within script.decls _ in omega (arith, most)
+
+-- an item as an admission
+pub item_there : (items : List DoDef) (i : ℕ) (item : DoDef) (ext : Ext) → i < length items → item ≡ get_or items i item → ext ≡ ext_of item → slice_get (map ext_of items) i ≡ Some ext
+item_there items i item ext within is e =
+    slice_get-map ext_of items i
+    ∙ (ap (option_map ext_of) (slice_get-get_or items i item within) ∙ ap (λ (x : Ext). Some x) (ap ext_of (sym is) ∙ sym e))
+
+pub item_named : (P : Ext → Type 0) (items : List DoDef) (i : ℕ) (item : DoDef) (ext : Ext) → i < length items → item ≡ get_or items i item → ext ≡ ext_of item
+    → All P (map ext_of items) → P ext
+item_named P items i item ext within is e all =
+    let as_many : i < length (map ext_of items) = omega (arith, length-map items ext_of) in
+    subst P (get_or-map ext_of items i item ext within ∙ (ap ext_of (sym is) ∙ sym e)) (All-get_or P (map ext_of items) i ext as_many all)

@@ -32,7 +32,8 @@ pub fn push_comps<B: Micro>(
     ensures counted { OnOk result (AreTotals script.now core.now.exts totals.new) }
 {
     while totals.comps < core.admitted() {
-        push_comp(script, core, totals.comps + 1, calls, text, totals)?;
+        let comp = totals.comps + 1;
+        push_comp(script, core, comp, calls, text, totals)?;
         totals.comps += 1;
     }
     Ok(())
