@@ -97,13 +97,7 @@ impl<B: Micro> Run<B> {
         let count = admit_part(alloc, &mut self.core, items, most)?;
         run_to_end(alloc, &mut self.core)?;
         self.text.clear();
-        push_comps(
-            script,
-            &self.core,
-            calls,
-            &mut self.text,
-            &mut self.totals,
-        )?;
+        push_comps(script, &self.core, calls, &mut self.text, &mut self.totals)?;
         let _admitted = self.core.admitted();
         self.core.clear();
         Ok(count)

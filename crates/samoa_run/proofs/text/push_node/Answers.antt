@@ -27,4 +27,3 @@ loop-micro-preserved g c =
     ∙ ap (λ (text : List _). text ++ line) c.loop-micro.invariant
     ∙ append_assoc c.args.text.now.items (node_text script states node micro) line
     ∙ ap (λ (text : List _). c.args.text.now.items ++ text) (sym (node_text-one_more script states node micro))
-
