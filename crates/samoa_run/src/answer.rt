@@ -8,8 +8,8 @@ ghost use Rattle.samoa_run.specs.Due.{due_status, due_text, fault_line as line_o
 ghost use Rattle.samoa_run.specs.Serving.{Answers};
 ghost use Rattle.samoa_run.specs.Built.{is_built};
 
-use crate::fault::fault_line;
 use crate::ready::built;
+use crate::fault::fault_line;
 use crate::report::write_report;
 use crate::stop::Stop;
 use crate::words::Order;

@@ -74,7 +74,9 @@ pub fn serve<R: Wait + Threads + Sync, S: Source, K: Sink, G: Gate + Sync, B: Mi
     ensures sink_failed { result ≡ 5 → Rose (K.faults sink.old) (K.faults sink.new) }
 {
     match order_in(words) {
-        Some(Order::Run { calls }) => { obey(alloc, Order::Run { calls }, source, sink, stock) }
+        Some(Order::Run { calls }) => {
+            obey(alloc, Order::Run { calls }, source, sink, stock)
+        }
         Some(Order::Serial { .. }) => serve_serial(alloc, words, source, sink, stock),
         Some(Order::Check) => check_only(alloc, words, source, sink, stock),
         None => write_text(b"! usage\n", 2, sink),
