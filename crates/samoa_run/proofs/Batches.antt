@@ -1,8 +1,7 @@
--- The computations of a batch, one after another.
-use Rattle.std.proofs.Common.{◌≡◌, ℕ, Bool, ◌+◌, ◌<◌, ◌≤◌, List, [], ◌∷◌, ◌++◌, length, map, take, drop, get_or, refl, sym, ap, ◌∙◌, subst, arith, append_assoc, append-nil, take-append-drop}
-use Rattle.std.proofs.lemmas.List.{get_or-map, length-map, map_more, map-append}
-use Rattle.std.specs.List.{All}
-use Rattle.std.proofs.lemmas.List.Elements.{All-get_or}
+-- The computations of a tick, part by part.
+use Rattle.std.proofs.Common.{◌≡◌, ℕ, Bool, ◌+◌, ◌<◌, ◌≤◌, List, [], ◌∷◌, ◌++◌, length, map, take, drop, refl, sym, ap, ◌∙◌, subst, arith, append_assoc, append-nil, length-append, take-append-drop, if◌then◌else◌, nat_lt, true}
+use Rattle.std.proofs.lemmas.List.{length-map, drop-map}
+use Rattle.std.proofs.Math.Seq.{take-append_seam}
 use Rattle.std.specs.declared.option.Option.{Option}
 use Rattle.std.specs.Io.KnownBytes.{Appends}
 use Rattle.std.proofs.KnownBytes.{Appends-nil, Appends-trans}
@@ -10,67 +9,93 @@ use Rattle.samoa_model.specs.declared.record.Ext.{Ext}
 use Rattle.samoa_model.specs.declared.script.DoDef.{DoDef}
 use Rattle.samoa_model.specs.declared.script.Script.{Script}
 use Rattle.samoa_serial.specs.History.{ext_of}
-use Rattle.samoa_core.specs.Course.{Course}
+use Rattle.samoa_invariant.specs.Runs.{Trace}
 use Rattle.samoa_ends.specs.Pieces.{AppendsPrefix}
 use Rattle.samoa_run.specs.declared.totals.Totals.{Totals}
-use Rattle.samoa_run.specs.Running.{HasRun, next_text, later_text}
-use Rattle.samoa_run.proofs.LaterText.{later_text-none, later_text-append, later_text-one_more}
+use Rattle.samoa_run.specs.Running.{HasRun, later_text}
+use Rattle.samoa_run.proofs.LaterText.{later_text-none, later_text-append}
 use Rattle.samoa_run.proofs.Parts.{part_after, part_more}
 
--- an item is the one at its place
-abbrev IsItem : List DoDef → ℕ → DoDef → Type 0
-IsItem items i item = (i < length items) × (item ≡ get_or items i item)
+-- of these items this rest is still to be run; the others were run and written
+pub record RanTo (script : Script) (calls : Bool) (past : List Ext) (items rest : List DoDef) (old new : Option (List ℕ)) (core : Trace) (totals : Totals) : Type 0 where
+  pub done : List Ext
+  pub split : map ext_of items ≡ done ++ map ext_of rest
+  pub written : Appends old new (later_text script calls past done)
+  pub has_run : HasRun script (past ++ done) core totals
 
-done_more : (items : List DoDef) (i : ℕ) (item : DoDef) (ext : Ext) → IsItem items i item → ext ≡ ext_of item
-    → map ext_of (take (i + 1) items) ≡ map ext_of (take i items) ++ ext ∷ []
-done_more items i item ext here e =
-    map_more ext_of items i item here.0 ∙ ap (λ (x : Ext). map ext_of (take i items) ++ x ∷ []) (ap ext_of (sym here.1) ∙ sym e)
+pub ran_none : (script : Script) (calls : Bool) (past : List Ext) (items : List DoDef) (old : Option (List ℕ)) (core : Trace) (totals : Totals) → HasRun script past core totals
+    → RanTo script calls past items items old old core totals
+ran_none script calls past items old core totals has =
+    let W : List ℕ → Type 0 = Appends old old in
+    let H : List Ext → Type 0 = λ l. HasRun script l core totals in
+    record {
+      done = [];
+      split = refl;
+      written = subst W (sym (later_text-none script calls past)) (Appends-nil old);
+      has_run = subst H (sym (append-nil past)) has;
+    }
 
-all_are : (items : List DoDef) (i : ℕ) (item : DoDef) (ext : Ext) → IsItem items i item → ext ≡ ext_of item
-    → map ext_of items ≡ (map ext_of (take i items) ++ ext ∷ []) ++ map ext_of (drop (i + 1) items)
-all_are items i item ext here e =
-    ap (λ (l : List DoDef). map ext_of l) (sym (take-append-drop (i + 1) items))
-    ∙ map-append ext_of (take (i + 1) items) (drop (i + 1) items)
-    ∙ ap (λ (l : List Ext). l ++ map ext_of (drop (i + 1) items)) (done_more items i item ext here e)
+-- the first of the rest, and what comes after them
+rest_is : (rest : List DoDef) (count : ℕ) → map ext_of rest ≡ take count (map ext_of rest) ++ map ext_of (drop count rest)
+rest_is rest count =
+    sym (take-append-drop count (map ext_of rest)) ∙ ap (λ (l : List Ext). take count (map ext_of rest) ++ l) (drop-map ext_of count rest)
 
--- the item is one of the script
-pub item_named : (P : Ext → Type 0) (items : List DoDef) (i : ℕ) (item : DoDef) (ext : Ext) → i < length items → item ≡ get_or items i item → ext ≡ ext_of item
-    → All P (map ext_of items) → P ext
-item_named P items i item ext within is e all =
-    let as_many : i < length (map ext_of items) = omega (arith, length-map items ext_of) in
-    subst P (get_or-map ext_of items i item ext within ∙ (ap ext_of (sym is) ∙ sym e)) (All-get_or P (map ext_of items) i ext as_many all)
+-- one part more was run and written
+pub ran_more : (script : Script) (calls : Bool) (past : List Ext) (items rest later : List DoDef) (count : ℕ) (old mid new : Option (List ℕ)) (core core' : Trace) (totals totals' : Totals)
+    → RanTo script calls past items rest old mid core totals → later ≡ drop count rest
+    → Appends mid new (later_text script calls core.exts (take count (map ext_of rest))) → HasRun script (core.exts ++ take count (map ext_of rest)) core' totals'
+    → RanTo script calls past items later old new core' totals'
+ran_more script calls past items rest later count old mid new core core' totals totals' ran is wrote has =
+    let first : List Ext = take count (map ext_of rest) in
+    let W : List ℕ → Type 0 = Appends old new in
+    let H : List Ext → Type 0 = λ l. HasRun script l core' totals' in
+    record {
+      done = ran.done ++ first;
+      split = ran.split ∙ (ap (λ (l : List Ext). ran.done ++ l) (rest_is rest count)
+          ∙ (sym (append_assoc ran.done first (map ext_of (drop count rest))) ∙ ap (λ (l : List DoDef). (ran.done ++ first) ++ map ext_of l) (sym is)));
+      written = subst W (ap (λ (l : List Ext). later_text script calls past ran.done ++ later_text script calls l first) ran.has_run.exts ∙ sym (later_text-append script calls past ran.done first))
+          (Appends-trans old mid new _ _ ran.written wrote);
+      has_run = subst H (ap (λ (l : List Ext). l ++ first) ran.has_run.exts ∙ append_assoc past ran.done first) has;
+    }
 
--- what a core has behind it, and the next one
-pub past_more : (past before : List Ext) (items : List DoDef) (i : ℕ) (item : DoDef) (ext : Ext) → i < length items → item ≡ get_or items i item → ext ≡ ext_of item
-    → before ≡ past ++ map ext_of (take i items) → before ++ ext ∷ [] ≡ past ++ map ext_of (take (i + 1) items)
-past_more past before items i item ext within is e at =
-    ap (λ (l : List Ext). l ++ ext ∷ []) at ∙ append_assoc past (map ext_of (take i items)) (ext ∷ [])
-    ∙ ap (λ (l : List Ext). past ++ l) (sym (done_more items i item ext (within, is) e))
+-- what a core has behind it
+pub ran_now : (script : Script) (calls : Bool) (past : List Ext) (items rest : List DoDef) (old new : Option (List ℕ)) (core : Trace) (totals : Totals)
+    → RanTo script calls past items rest old new core totals → HasRun script core.exts core totals
+ran_now script calls past items rest old new core totals ran = let H : List Ext → Type 0 = λ l. HasRun script l core totals in subst H (sym ran.has_run.exts) ran.has_run
 
-text_more : (script : Script) (calls : Bool) (past before done : List Ext) (ext : Ext) → before ≡ past ++ done
-    → later_text script calls past (done ++ ext ∷ []) ≡ later_text script calls past done ++ next_text script calls before ext
-text_more script calls past before done ext at =
-    later_text-one_more script calls past done ext ∙ ap (λ (l : List Ext). later_text script calls past done ++ next_text script calls l ext) (sym at)
+pub few_left : (script : Script) (calls : Bool) (past : List Ext) (items rest : List DoDef) (old new : Option (List ℕ)) (core : Trace) (totals : Totals)
+    → RanTo script calls past items rest old new core totals → length past + length items ≤ 100000 → length core.exts + length rest ≤ 100000
+few_left script calls past items rest old new core totals ran few =
+    let all : length (map ext_of items) ≡ length (ran.done ++ map ext_of rest) = ap (λ (l : List Ext). length l) ran.split in
+    let now : length core.exts ≡ length (past ++ ran.done) = ap (λ (l : List Ext). length l) ran.has_run.exts in
+    omega (arith, all, now, length-append ran.done (map ext_of rest), length-append past ran.done, length-map items ext_of, length-map rest ext_of)
 
--- the first were written, and the next
-pub wrote_next : (script : Script) (calls : Bool) (past before : List Ext) (items : List DoDef) (i : ℕ) (item : DoDef) (ext : Ext) (old mid new : Option (List ℕ))
-    → i < length items → item ≡ get_or items i item → ext ≡ ext_of item → before ≡ past ++ map ext_of (take i items)
-    → Appends old mid (later_text script calls past (map ext_of (take i items))) → Appends mid new (next_text script calls before ext)
-    → Appends old new (later_text script calls past (map ext_of (take (i + 1) items)))
-wrote_next script calls past before items i item ext old mid new within is e at first next =
-    let P : List ℕ → Type 0 = Appends old new in
-    let same = ap (later_text script calls past) (done_more items i item ext (within, is) e) ∙ text_more script calls past before (map ext_of (take i items)) ext at in
-    subst P (sym same) (Appends-trans old mid new _ _ first next)
-
--- the first were written, and a part of the next
-pub wrote_in_part : (script : Script) (calls : Bool) (past before : List Ext) (items : List DoDef) (i : ℕ) (item : DoDef) (ext : Ext) (old mid new : Option (List ℕ))
-    → i < length items → item ≡ get_or items i item → ext ≡ ext_of item → before ≡ past ++ map ext_of (take i items)
-    → Appends old mid (later_text script calls past (map ext_of (take i items))) → AppendsPrefix mid new (next_text script calls before ext)
+-- a part of the rest was written
+pub ran_in_part : (script : Script) (calls : Bool) (past : List Ext) (items rest : List DoDef) (old mid new : Option (List ℕ)) (core : Trace) (totals : Totals)
+    → RanTo script calls past items rest old mid core totals → AppendsPrefix mid new (later_text script calls core.exts (map ext_of rest))
     → AppendsPrefix old new (later_text script calls past (map ext_of items))
-wrote_in_part script calls past before items i item ext old mid new within is e at first next =
+ran_in_part script calls past items rest old mid new core totals ran part =
     let P : List ℕ → Type 0 = AppendsPrefix old new in
-    let done : List Ext = map ext_of (take i items) in
-    let rest : List Ext = map ext_of (drop (i + 1) items) in
-    let same = ap (later_text script calls past) (all_are items i item ext (within, is) e) ∙ later_text-append script calls past (done ++ ext ∷ []) rest
-    ∙ ap (λ (text : List ℕ). text ++ later_text script calls (past ++ (done ++ ext ∷ [])) rest) (text_more script calls past before done ext at) in
-    subst P (sym same) (part_more old new _ _ (part_after old mid new _ _ first next))
+    let same = ap (λ (l : List Ext). later_text script calls past ran.done ++ later_text script calls l (map ext_of rest)) ran.has_run.exts
+    ∙ (sym (later_text-append script calls past ran.done (map ext_of rest)) ∙ ap (later_text script calls past) (sym ran.split)) in
+    subst P same (part_after old mid new _ _ ran.written part)
+
+-- all were run and written
+all_done : (items : List DoDef) (done : List Ext) (rest : List DoDef) → map ext_of items ≡ done ++ map ext_of rest → rest ≡ [] → done ≡ map ext_of items
+all_done items done rest split none = sym (split ∙ (ap (λ (l : List DoDef). done ++ map ext_of l) none ∙ append-nil done))
+
+pub ran_all : (script : Script) (calls : Bool) (past : List Ext) (items rest : List DoDef) (old new : Option (List ℕ)) (core : Trace) (totals : Totals)
+    → RanTo script calls past items rest old new core totals → rest ≡ []
+    → Appends old new (later_text script calls past (map ext_of items)) × HasRun script (past ++ map ext_of items) core totals
+ran_all script calls past items rest old new core totals ran none =
+    let W : List Ext → Type 0 = λ l. Appends old new (later_text script calls past l) in
+    let H : List Ext → Type 0 = λ l. HasRun script (past ++ l) core totals in
+    let all : ran.done ≡ map ext_of items = all_done items ran.done rest ran.split none in (subst W all ran.written, subst H all ran.has_run)
+
+-- a part of the first of these was written, or all of it
+pub first_part : (script : Script) (calls : Bool) (past exts : List Ext) (count : ℕ) (old new : Option (List ℕ)) → AppendsPrefix old new (later_text script calls past (take count exts))
+    → AppendsPrefix old new (later_text script calls past exts)
+first_part script calls past exts count old new part =
+    let P : List ℕ → Type 0 = AppendsPrefix old new in
+    let same = sym (later_text-append script calls past (take count exts) (drop count exts)) ∙ ap (later_text script calls past) (take-append-drop count exts) in
+    subst P same (part_more old new _ _ part)

@@ -11,27 +11,29 @@ use Rattle.samoa_serial.specs.History.{history}
 use Rattle.samoa_serial.specs.Lines.{total_text}
 use Rattle.samoa_serial.specs.Report.{comps_text, states_text, is_delivery, is_refusal, entries_of_sort, report, report_of}
 use Rattle.samoa_serial.proofs.ReportLaws.{report_of-parts}
-use Rattle.samoa_core.specs.Course.{Course, states_of}
+use Rattle.samoa_invariant.specs.Runs.{Trace}
 use Rattle.samoa_ends.specs.Pieces.{AppendsPrefix}
 use Rattle.samoa_run.specs.declared.totals.Totals.{Totals}
-use Rattle.samoa_run.specs.Running.{HasRun, closing_text, later_text}
+use Rattle.samoa_run.specs.Running.{HasRun, closing_text, later_text, states_of}
 use Rattle.samoa_run.proofs.LaterText.{comps_text-all}
 use Rattle.samoa_run.proofs.Parts.{part_after, part_more}
 
 -- the shown states of a core, and its totals
-pub closing_text-built : (script : Script) (past : List Ext) (core : Course) (totals : Totals) (none states all : List ℕ) → HasRun script past core totals
+pub closing_text-built : (script : Script) (past : List Ext) (core : Trace) (totals : Totals) (none states all : List ℕ) → HasRun script past core totals
     → none ≡ [] → states ≡ none ++ states_text script (states_of core) script.nodes → all ≡ states ++ total_text totals.comps totals.deliveries totals.refusals
     → all ≡ closing_text script past
 unfolding closing_text
 closing_text-built script past core totals none states all has e f h =
     let total : total_text totals.comps totals.deliveries totals.refusals
     ≡ total_text (length past) (entries_of_sort is_delivery (serial script past).comps) (entries_of_sort is_refusal (serial script past).comps)
-    = ap (λ (n : ℕ). total_text n totals.deliveries totals.refusals) has.comps
-    ∙ ap (λ (n : ℕ). total_text (length past) n totals.refusals) has.deliveries
-    ∙ ap (λ (n : ℕ). total_text (length past) (entries_of_sort is_delivery (serial script past).comps) n) has.refusals in
+    = ap (λ (n : ℕ). total_text n totals.deliveries totals.refusals) has.counted.comps
+    ∙ ap (λ (n : ℕ). total_text (length past) n totals.refusals) has.counted.deliveries
+    ∙ ap (λ (n : ℕ). total_text (length past) (entries_of_sort is_delivery (serial script past).comps) n) has.counted.refusals in
+    let left : states_of core ≡ (serial script past).states
+    = ap (λ (s : Script). (serial s core.exts).states) has.of_script ∙ ap (λ (exts : List Ext). (serial script exts).states) has.exts in
     h ∙ ap (λ (t : List ℕ). states ++ t) total
     ∙ ap (λ (t : List ℕ). t ++ total_text (length past) (entries_of_sort is_delivery (serial script past).comps) (entries_of_sort is_refusal (serial script past).comps))
-    (f ∙ ap (λ (t : List ℕ). t ++ states_text script (states_of core) script.nodes) e ∙ ap (λ (d : Course). states_text script (states_of d) script.nodes) has.idle)
+    (f ∙ ap (λ (t : List ℕ). t ++ states_text script (states_of core) script.nodes) e ∙ ap (λ (f : ℕ → States). states_text script f script.nodes) left)
 
 -- the report is what the computations write, and then this
 pub report-is : (script : Script) (calls : Bool) → report script calls ≡ later_text script calls [] (history script) ++ closing_text script (history script)

@@ -16,7 +16,7 @@ pub found_within : {X : Type 0} (xs : List X) (at : ℕ) (x : X) → Some x ≡ 
 found_within xs at x h = slice_get_within xs at x (sym h)
 
 -- the first elements, with the one at an index
-take_one_more : {X : Type 0} (xs : List X) (at : ℕ) (x : X) → Some x ≡ slice_get xs at → take (at + 1) xs ≡ take at xs ++ x ∷ []
+pub take_one_more : {X : Type 0} (xs : List X) (at : ℕ) (x : X) → Some x ≡ slice_get xs at → take (at + 1) xs ≡ take at xs ++ x ∷ []
 take_one_more xs at x h =
     take_more xs at x (found_within xs at x h) ∙ ap (λ y. take at xs ++ y ∷ []) (get_or_from_slice_get xs at x x (sym h))
 

@@ -13,7 +13,7 @@ use Rattle.samoa_model.specs.declared.script.Script.{Script}
 use Rattle.samoa_model.specs.Range.{IsInRange, IsDoInRange, IsExtOf}
 use Rattle.samoa_serial.specs.History.{ext_of, batch, history_to, history}
 use Rattle.samoa_serial.proofs.HistoryLaws.{in_first, history_to-one_more, history-is, length-history_to, batch-in_range}
-use Rattle.samoa_core.specs.Course.{Course}
+use Rattle.samoa_invariant.specs.Runs.{Trace}
 use Rattle.samoa_ends.specs.Pieces.{AppendsPrefix}
 use Rattle.samoa_run.specs.declared.totals.Totals.{Totals}
 use Rattle.samoa_run.specs.Running.{HasRun, later_text}
@@ -62,7 +62,7 @@ batch_few script before past items range is =
     omega (arith, as_many, length-append past (map ext_of items), length-map items ext_of, few_to script (before + 1), range.few_does)
 
 -- one tick more was run and written
-pub has_run-batch : (script : Script) (before : ℕ) (past : List Ext) (items : List DoDef) (core : Course) (totals : Totals) → IsNext script before past items
+pub has_run-batch : (script : Script) (before : ℕ) (past : List Ext) (items : List DoDef) (core : Trace) (totals : Totals) → IsNext script before past items
     → HasRun script (past ++ map ext_of items) core totals → HasRun script (history_to script (before + 1)) core totals
 has_run-batch script before past items core totals is has =
     let H : List Ext → Type 0 = λ l. HasRun script l core totals in subst H (next_past script before past items is) has

@@ -12,6 +12,11 @@ pub later_text-none : (script : Script) (calls : Bool) (past : List Ext) → lat
 unfolding later_text
 later_text-none script calls past = refl
 
+pub later_text-first : (script : Script) (calls : Bool) (past : List Ext) (ext : Ext) (exts : List Ext)
+    → later_text script calls past (ext ∷ exts) ≡ next_text script calls past ext ++ later_text script calls (past ++ ext ∷ []) exts
+unfolding later_text
+later_text-first script calls past ext exts = refl
+
 -- first some, then the others
 pub later_text-append : (script : Script) (calls : Bool) (past xs ys : List Ext)
     → later_text script calls past (xs ++ ys) ≡ later_text script calls past xs ++ later_text script calls (past ++ xs) ys

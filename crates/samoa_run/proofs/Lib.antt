@@ -4,13 +4,16 @@ pub mod Closing
 pub mod EntryBound
 pub mod EntrySteps
 pub mod Histories
+pub mod Kept
 pub mod LaterText
 pub mod Obeying
 pub mod OneMore
 pub mod OneWord
+pub mod Opened
 pub mod Parts
 pub mod Progress
 pub mod Remaining
 pub mod Runnable
+pub mod RunOnce
 pub mod Served
 pub mod Ticks

@@ -1,64 +1,63 @@
--- One computation more.
-use Rattle.std.proofs.Common.{◌≡◌, ℕ, zero, suc, ◌+◌, ◌-◌, ◌*◌, ◌^◌, ◌<◌, ◌≤◌, max, Bool, false, List, [], ◌∷◌, ◌++◌, length, length-append, get_or, Some, None, refl, sym, ap, ◌∙◌, arith, slice_get, count_by}
-use Rattle.std.specs.List.{All, sum_by}
-use Rattle.std.proofs.lemmas.List.Elements.{All-head, All-tail}
+-- One computation more is written and counted.
+use Rattle.std.proofs.Common.{◌≡◌, ℕ, ◌+◌, ◌-◌, ◌*◌, ◌^◌, ◌<◌, ◌≤◌, Bool, List, [], ◌∷◌, ◌++◌, length, length-take, get_or, take, drop, Some, refl, sym, ap, ◌∙◌, arith, append_assoc, append-nil, slice_get, count_by}
+use Rattle.std.proofs.lemmas.List.{drop_all, drop_more, length-take-le}
 use Rattle.std.proofs.lemmas.List.Sums.{count_by-le-length}
+use Rattle.std.proofs.lemmas.Option.{slice_get_within, get_or_from_slice_get}
 use Rattle.samoa_model.specs.declared.record.Entry.{Entry}
 use Rattle.samoa_model.specs.declared.record.Ext.{Ext}
-use Rattle.samoa_model.specs.declared.script.DeclDef.{DeclDef}
 use Rattle.samoa_model.specs.declared.script.Script.{Script}
-use Rattle.samoa_model.specs.Cells.{cells_of, greatest_budget, need}
-use Rattle.samoa_model.specs.Range.{IsInRange, HasBudget}
+use Rattle.samoa_model.specs.Range.{IsInRange}
 use Rattle.samoa_serial.specs.Whole.{Ran}
 use Rattle.samoa_serial.specs.SerialRun.{Served, serve_from, serve_one, serial, ran_of, opening_states}
 use Rattle.samoa_serial.specs.Report.{comp_text, entries_of_sort, is_delivery, is_refusal}
-use Rattle.samoa_serial.proofs.SerialLaws.{last_comp}
+use Rattle.samoa_serial.proofs.SerialLaws.{comp_at}
 use Rattle.samoa_serial.proofs.ReportLaws.{entries_of_sort-append, entries_of_sort-one_more}
-use Rattle.samoa_core.specs.Course.{Course, admitting, next_number, ended_at, no_ran, clearing}
+use Rattle.samoa_invariant.specs.Runs.{Trace, no_ran, served_at}
 use Rattle.samoa_run.specs.declared.totals.Totals.{Totals}
-use Rattle.samoa_run.specs.Running.{Counts, HasRun, ended, idle, next_ran, next_text}
+use Rattle.samoa_run.specs.Running.{AreTotals, Counts, later_text, next_ran, next_text}
 use Rattle.samoa_run.proofs.EntryBound.{entries_of_ran-at_most}
+use Rattle.samoa_run.proofs.EntrySteps.{take_one_more}
+use Rattle.samoa_run.proofs.LaterText.{later_text-first, later_text-none}
 
-abbrev left_with : Script → List Ext → Ext → ℕ → Course
-left_with script past ext held = record { script = script; cells = 65536; held = held; past = past ++ ext ∷ []; cleared = length past; present = None }
+-- this was admitted to a core for the script, after k others
+pub record IsAt (script : Script) (core : Trace) (k : ℕ) (ext : Ext) : Type 0 where
+  pub of_script : core.script ≡ script
+  pub there : slice_get core.exts k ≡ Some ext
 
--- a core in which one computation more has ended, which wasn't cleared away and has this number
-pub record IsLeft (script : Script) (past : List Ext) (ext : Ext) (c : Course) (comp : ℕ) : Type 0 where
-  pub held : ℕ
-  pub course : c ≡ left_with script past ext held
-  pub number : comp ≡ length past + 1
+-- its computation is the next one after those before it
+served_is : (script : Script) (core : Trace) (k : ℕ) (ext : Ext) → IsAt script core k ext → served_at core (k + 1) ≡ next_ran script (take k core.exts) ext
+served_is script core k ext is =
+    let exts : List Ext = core.exts in
+    let lt : k < length exts = slice_get_within exts k ext is.there in
+    let at : get_or exts k ext ≡ ext = get_or_from_slice_get exts k ext ext is.there in
+    let place : k + 1 - 1 ≡ k = omega arith in
+    let found : slice_get (serial script exts).comps k ≡ Some (next_ran script (take k exts) ext)
+    = comp_at script exts k ext lt ∙ ap (λ (x : Ext). Some (next_ran script (take k exts) x)) at in
+    ap (λ (s : Script). get_or (serial s exts).comps (k + 1 - 1) no_ran) is.of_script
+    ∙ (ap (λ (n : ℕ). get_or (serial script exts).comps n no_ran) place
+    ∙ get_or_from_slice_get (serial script exts).comps k (next_ran script (take k exts) ext) no_ran found)
 
-pub left_after : (script : Script) (past : List Ext) (ext : Ext) (before c : Course) (comp : ℕ) → before ≡ idle script 65536 past
-    → c ≡ ended (admitting before ext (cells_of before.script ext)) → comp ≡ next_number before → IsLeft script past ext c comp
-left_after script past ext before c comp start end number = record {
-  held = 0 + cells_of script ext;
-  course = end ∙ ap (λ (d : Course). ended (admitting d ext (cells_of d.script ext))) start;
-  number = number ∙ ap next_number start;
-}
+first_more : (script : Script) (core : Trace) (k : ℕ) (ext : Ext) → IsAt script core k ext → take (k + 1) core.exts ≡ take k core.exts ++ ext ∷ []
+first_more script core k ext is = take_one_more core.exts k ext (sym is.there)
 
-place : (past : List Ext) (comp : ℕ) → comp ≡ length past + 1 → comp - 1 ≡ length past
-place past comp e = omega arith
-
-slice_get_last : (past : List Ext) (ext : Ext) → slice_get (past ++ ext ∷ []) (length past) ≡ Some ext
-slice_get_last [] ext = refl
-slice_get_last (x ∷ past) ext = slice_get_last past ext
-
--- what it was admitted with, what it gave, and its part of the report
-pub last_ext : (script : Script) (past : List Ext) (ext : Ext) (c : Course) (comp : ℕ) → IsLeft script past ext c comp → slice_get c.past (comp - 1) ≡ Some ext
-last_ext script past ext c comp left =
-    ap (λ (d : Course). slice_get d.past (comp - 1)) left.course
-    ∙ ap (λ (k : ℕ). slice_get (past ++ ext ∷ []) k) (place past comp left.number) ∙ slice_get_last past ext
-
-last_ran : (script : Script) (past : List Ext) (ext : Ext) (c : Course) (comp : ℕ) → IsLeft script past ext c comp → ended_at c comp ≡ next_ran script past ext
-last_ran script past ext c comp left =
-    ap (λ (d : Course). ended_at d comp) left.course
-    ∙ ap (λ (k : ℕ). get_or (serial script (past ++ ext ∷ [])).comps k no_ran) (place past comp left.number) ∙ last_comp script past ext no_ran
-
-pub last_text : (script : Script) (calls : Bool) (past : List Ext) (ext : Ext) (c : Course) (comp : ℕ) → IsLeft script past ext c comp
-    → comp_text script calls comp ext (ended_at c comp) ≡ next_text script calls past ext
-last_text script calls past ext c comp left =
-    ap (λ (k : ℕ). comp_text script calls k ext (ended_at c comp)) left.number
-    ∙ ap (λ (r : Ran). comp_text script calls (length past + 1) ext r) (last_ran script past ext c comp left)
+-- its part of the report comes before those of the later ones
+pub text_at : (script : Script) (calls : Bool) (core : Trace) (k : ℕ) (ext : Ext) → IsAt script core k ext
+    → later_text script calls (take k core.exts) (drop k core.exts)
+    ≡ comp_text script calls (k + 1) ext (served_at core (k + 1)) ++ later_text script calls (take (k + 1) core.exts) (drop (k + 1) core.exts)
+text_at script calls core k ext is =
+    let exts : List Ext = core.exts in
+    let past : List Ext = take k exts in
+    let rest : List Ext = drop (k + 1) exts in
+    let lt : k < length exts = slice_get_within exts k ext is.there in
+    let many : length past ≡ k = length-take-le k exts (omega (arith, lt)) in
+    let from : drop k exts ≡ ext ∷ rest = drop_more exts k ext lt ∙ ap (λ (x : Ext). x ∷ rest) (get_or_from_slice_get exts k ext ext is.there) in
+    let own : next_text script calls past ext ≡ comp_text script calls (k + 1) ext (served_at core (k + 1))
+    = ap (λ (n : ℕ). comp_text script calls (n + 1) ext (next_ran script past ext)) many
+    ∙ ap (λ (r : Ran). comp_text script calls (k + 1) ext r) (sym (served_is script core k ext is)) in
+    ap (later_text script calls past) from
+    ∙ (later_text-first script calls past ext rest
+    ∙ (ap (λ (t : List ℕ). t ++ later_text script calls (past ++ ext ∷ []) rest) own
+    ∙ ap (λ (l : List Ext). comp_text script calls (k + 1) ext (served_at core (k + 1)) ++ later_text script calls l rest) (sym (first_more script core k ext is))))
 
 -- entries of a sort: at most 2,312 for each computation
 sorts_from : (sort : Entry → Bool) (script : Script) → IsInRange script → (before : List Ext) (served : Served) (later : List Ext)
@@ -75,36 +74,50 @@ sorts-most sort script past range =
     let all = sorts_from sort script range [] (record { states = opening_states script; comps = [] }) past in omega arith
 
 -- there is room to count its entries
-pub room_for : (sort : Entry → Bool) (script : Script) (past : List Ext) (ext : Ext) (c : Course) (comp total : ℕ) → IsInRange script → length past < 100000
-    → IsLeft script past ext c comp → total ≡ entries_of_sort sort (serial script past).comps → total + length (ended_at c comp).world.entries < 2 ^ 64
-room_for sort script past ext c comp total range few left counted =
+pub room_for : (sort : Entry → Bool) (script : Script) (core : Trace) (k : ℕ) (ext : Ext) (total : ℕ) → IsInRange script → k < 100000
+    → IsAt script core k ext → total ≡ entries_of_sort sort (serial script (take k core.exts)).comps → total + length (served_at core (k + 1)).world.entries < 2 ^ 64
+room_for sort script core k ext total range few is counted =
+    let past : List Ext = take k core.exts in
+    let lt : k < length core.exts = slice_get_within core.exts k ext is.there in
+    let many : length past ≡ k = length-take-le k core.exts (omega (arith, lt)) in
     let most = sorts-most sort script past range in
     let own = entries_of_ran-at_most script past ((serial script past).states ext.node.0) ext range in
-    let as_many : length (ended_at c comp).world.entries ≡ length (next_ran script past ext).world.entries = ap (λ (r : Ran). length r.world.entries) (last_ran script past ext c comp left) in
-    omega (arith, most, own, as_many)
+    let as_many : length (served_at core (k + 1)).world.entries ≡ length (next_ran script past ext).world.entries = ap (λ (r : Ran). length r.world.entries) (served_is script core k ext is) in
+    omega (arith, most, own, as_many, many)
 
--- and when it was cleared away
-pub has_run-more : (script : Script) (past : List Ext) (ext : Ext) (start c cleared : Course) (comp : ℕ) (before after : Totals) → HasRun script past start before
-    → IsLeft script past ext c comp → Counts (ended_at c comp).world.entries before after → cleared ≡ clearing c
-    → HasRun script (past ++ ext ∷ []) cleared (record after { comps = after.comps + 1 })
-has_run-more script past ext start c cleared comp before after has left counts clear =
-    let same = last_ran script past ext c comp left in
-    let own : (sort : Entry → Bool) → count_by sort (ended_at c comp).world.entries ≡ count_by sort (next_ran script past ext).world.entries
-    = λ sort. ap (λ (r : Ran). count_by sort r.world.entries) same in
+-- the totals with it
+pub totals_more : (script : Script) (core : Trace) (k : ℕ) (ext : Ext) (before after : Totals) → IsAt script core k ext
+    → AreTotals script (take k core.exts) before → Counts (served_at core (k + 1)).world.entries before after
+    → AreTotals script (take (k + 1) core.exts) (record after { comps = after.comps + 1 })
+totals_more script core k ext before after is are counts =
+    let past : List Ext = take k core.exts in
+    let lt : k < length core.exts = slice_get_within core.exts k ext is.there in
+    let many : length past ≡ k = length-take-le k core.exts (omega (arith, lt)) in
+    let more : length (take (k + 1) core.exts) ≡ k + 1 = length-take-le (k + 1) core.exts (omega (arith, lt)) in
+    let own : (sort : Entry → Bool) → count_by sort (served_at core (k + 1)).world.entries ≡ count_by sort (next_ran script past ext).world.entries
+    = λ sort. ap (λ (r : Ran). count_by sort r.world.entries) (served_is script core k ext is) in
+    let sum : (sort : Entry → Bool) → entries_of_sort sort (serial script (take (k + 1) core.exts)).comps
+    ≡ entries_of_sort sort (serial script past).comps + count_by sort (next_ran script past ext).world.entries
+    = λ sort. ap (λ (l : List Ext). entries_of_sort sort (serial script l).comps) (first_more script core k ext is) ∙ entries_of_sort-one_more sort script past ext in
     record {
-      idle = clear ∙ ap clearing left.course;
-      comps = omega (arith, counts.comps, has.comps, length-append past (ext ∷ []));
-      deliveries = omega (arith, counts.deliveries, has.deliveries, own is_delivery, entries_of_sort-one_more is_delivery script past ext);
-      refusals = omega (arith, counts.refusals, has.refusals, own is_refusal, entries_of_sort-one_more is_refusal script past ext);
+      comps = omega (arith, counts.comps, are.comps, many, more);
+      deliveries = omega (arith, counts.deliveries, are.deliveries, own is_delivery, sum is_delivery);
+      refusals = omega (arith, counts.refusals, are.refusals, own is_refusal, sum is_refusal);
     }
 
-budgets-most : (decls : List DeclDef) → All HasBudget decls → greatest_budget decls ≤ 256
-budgets-most [] all = omega arith
-budgets-most (d ∷ decls) all =
-    let here = (All-head HasBudget d decls all).1 in
-    let rest = budgets-most decls (All-tail HasBudget d decls all) in
-    omega arith
+-- what was written, and what is still to be written
+pub text_more : (script : Script) (calls : Bool) (core : Trace) (k : ℕ) (ext : Ext) (before after all : List ℕ) → IsAt script core k ext
+    → before ++ later_text script calls (take k core.exts) (drop k core.exts) ≡ all → after ≡ before ++ comp_text script calls (k + 1) ext (served_at core (k + 1))
+    → after ++ later_text script calls (take (k + 1) core.exts) (drop (k + 1) core.exts) ≡ all
+text_more script calls core k ext before after all is so_far one =
+    let own : List ℕ = comp_text script calls (k + 1) ext (served_at core (k + 1)) in
+    let rest : List ℕ = later_text script calls (take (k + 1) core.exts) (drop (k + 1) core.exts) in
+    ap (λ (t : List ℕ). t ++ rest) one
+    ∙ (append_assoc before own rest ∙ (ap (λ (t : List ℕ). before ++ t) (sym (text_at script calls core k ext is)) ∙ so_far))
 
--- no script needs more cells than this
-pub need-most : (script : Script) → IsInRange script → need script ≤ 4112
-need-most script range = let most = budgets-most script.decls range.budgets in omega arith
+-- nothing is still to be written
+pub text_all : (script : Script) (calls : Bool) (exts : List Ext) (k : ℕ) (text all : List ℕ) → length exts ≤ k
+    → text ++ later_text script calls (take k exts) (drop k exts) ≡ all → text ≡ all
+text_all script calls exts k text all past so_far =
+    sym (append-nil text)
+    ∙ (ap (λ (t : List ℕ). text ++ t) (sym (ap (later_text script calls (take k exts)) (drop_all k exts past) ∙ later_text-none script calls (take k exts))) ∙ so_far)

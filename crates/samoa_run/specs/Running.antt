@@ -1,26 +1,22 @@
 -- What a run makes of the core, and what it writes.
-use Rattle.std.specs.Prelude.{◌≡◌, ℕ, ◌+◌, Bool, false, List, [], ◌∷◌, ◌++◌, length, count_by, Option, Some, None}
+use Rattle.std.specs.Prelude.{◌≡◌, ℕ, ◌+◌, ◌-◌, ◌≤◌, Bool, List, [], ◌∷◌, ◌++◌, length, count_by}
 use Rattle.samoa_model.specs.declared.record.Entry.{Entry}
 use Rattle.samoa_model.specs.declared.record.Ext.{Ext}
 use Rattle.samoa_model.specs.declared.script.Script.{Script}
+use Rattle.samoa_model.specs.Cells.{need}
 use Rattle.samoa_serial.specs.Whole.{Ran}
+use Rattle.samoa_serial.specs.World.{States}
 use Rattle.samoa_serial.specs.SerialRun.{ran_of, serial}
 use Rattle.samoa_serial.specs.Lines.{total_text}
 use Rattle.samoa_serial.specs.Report.{comp_text, states_text, is_delivery, is_refusal, entries_of_sort}
-use Rattle.samoa_core.specs.Course.{Course, Present}
+use Rattle.samoa_invariant.specs.State.{AllEnded, NothingOut}
+use Rattle.samoa_invariant.specs.Runs.{Trace, state}
+use Rattle.samoa_core.specs.Since.{cleared_comps}
 use Rattle.samoa_run.specs.declared.totals.Totals.{Totals}
 
-abbrev pub ended_with : Course → Option Present → Course
-ended_with c None = c
-ended_with c (Some p) = record c { past = c.past ++ p.ext ∷ []; present = None }
-
--- the open computation, if there is one, has ended
-abbrev pub ended : Course → Course
-ended c = ended_with c c.present
-
--- a core in which all of these have ended and were cleared away
-abbrev pub idle : Script → ℕ → List Ext → Course
-idle script cells past = record { script = script; cells = cells; held = 0; past = past; cleared = length past; present = None }
+-- the states that the serial run of what was admitted leaves
+abbrev pub states_of : Trace → ℕ → States
+states_of core = (serial core.script core.exts).states
 
 -- the computation that is admitted after these
 abbrev pub next_ran : Script → List Ext → Ext → Ran
@@ -41,12 +37,30 @@ pub record Counts (entries : List Entry) (before after : Totals) : Type 0 where
   pub deliveries : after.deliveries ≡ before.deliveries + count_by is_delivery entries
   pub refusals : after.refusals ≡ before.refusals + count_by is_refusal entries
 
--- these computations have ended and were cleared away, and their totals are counted
-pub record HasRun (script : Script) (past : List Ext) (core : Course) (totals : Totals) : Type 0 where
-  pub idle : core ≡ idle script 65536 past
-  pub comps : totals.comps ≡ length past
-  pub deliveries : totals.deliveries ≡ entries_of_sort is_delivery (serial script past).comps
-  pub refusals : totals.refusals ≡ entries_of_sort is_refusal (serial script past).comps
+-- these are the totals of these computations
+pub record AreTotals (script : Script) (exts : List Ext) (totals : Totals) : Type 0 where
+  pub comps : totals.comps ≡ length exts
+  pub deliveries : totals.deliveries ≡ entries_of_sort is_delivery (serial script exts).comps
+  pub refusals : totals.refusals ≡ entries_of_sort is_refusal (serial script exts).comps
+
+-- these were admitted to a core, and nothing else was done
+pub record HasOpened (before : Trace) (more : List Ext) (after : Trace) : Type 0 where
+  pub script : after.script ≡ before.script
+  pub cells : after.cells ≡ before.cells
+  pub exts : after.exts ≡ before.exts ++ more
+  pub cleared : cleared_comps after ≡ cleared_comps before
+  pub out : (node p : ℕ) → (state after).out node p ≡ (state before).out node p
+
+-- these computations have ended and were cleared away, and their totals are counted. Any computation has room
+pub record HasRun (script : Script) (past : List Ext) (core : Trace) (totals : Totals) : Type 0 where
+  pub of_script : core.script ≡ script
+  pub exts : core.exts ≡ past
+  pub cleared : cleared_comps core ≡ length past
+  pub all : AllEnded (state core)
+  pub home : NothingOut (state core)
+  pub none_held : (state core).cells ≡ 0
+  pub room : need script ≤ core.cells
+  pub counted : AreTotals script past totals
 
 -- the last part of the report, after these computations: the states that stand, and the totals
 unfoldable pub closing_text : Script → List Ext → List ℕ

@@ -60,7 +60,7 @@ fn report_built<K: Sink, B: Micro>(
     if !built(script) {
         return write_text(b"! script NotYet\n", 3, sink);
     }
-    match write_report(alloc, script, stock, calls, sink) {
+    match write_report(alloc, script, stock, 65_536, true, calls, sink) {
         Ok(()) => 0,
         Err(Stop::Failed) => 5,
         Err(Stop::Memory) => 6,

@@ -1,112 +1,136 @@
 //! The run of a script, and its report.
-ghost use Rattle.std.specs.Prelude.{◌≡◌, ◌<◌, ◌≤◌, ◌+◌, ◌++◌, ◌∷◌, [], length, map, All, IfOk, OnOk, OnErr};
+ghost use Rattle.std.specs.Prelude.{◌≡◌, ◌<◌, ◌≤◌, ◌+◌, ◌++◌, [], length, map, take, All, IfOk, OnOk, OnErr};
 ghost use Rattle.std.specs.Io.KnownBytes.{Appends};
+ghost use Rattle.samoa_model.specs.Cells.{need};
 ghost use Rattle.samoa_model.specs.Range.{IsInRange, IsBuilt, IsExtOf};
 ghost use Rattle.samoa_serial.specs.History.{ext_of, history};
 ghost use Rattle.samoa_serial.specs.Report.{report};
 ghost use Rattle.samoa_ends.specs.Pieces.{AppendsPrefix};
 ghost use Rattle.samoa_micro.specs.Covers.{Covers};
-ghost use Rattle.samoa_run.specs.Running.{HasRun, next_text, later_text, closing_text};
+ghost use Rattle.samoa_core.specs.Known.{DeclaresKnown};
+ghost use Rattle.samoa_run.specs.Running.{HasRun, later_text, closing_text};
 ghost use Rattle.samoa_run.specs.Schedule.{IsByTick};
 ghost use Rattle.samoa_run.specs.Serving.{StopsFor};
 
-use crate::running::run_one;
+use crate::running::{admit_part, run_to_end};
 use crate::schedule::{by_tick, count_of_tick};
 use crate::stop::Stop;
-use crate::text::{push_comp, push_states};
+use crate::text::{push_comps, push_states};
 use crate::totals::Totals;
 use crate::writing::write_lines;
 use samoa_core::Core;
 use samoa_ends::Sink;
 use samoa_micro::{Micro, Stock};
-use samoa_model::{DoDef, Ext, NoMemory, Script};
+use samoa_model::{DoDef, NoMemory, Script};
 use samoa_report::total_line;
 use std::alloc::Global;
 
-/// How many payload cells a core has.
-const CELLS: u32 = 65_536;
-
-/// A run of a script: the core, the totals of what has ended, and the text at hand.
+/// A run of a script: the core, the totals of what has ended, the text at hand, and whether computations run one by one.
 #[derive(Drop)]
 pub struct Run<B: Micro> {
     core: Core<B>,
     totals: Totals,
     text: Vec<u8>,
+    one_by_one: bool,
 }
 
 impl<B: Micro> Run<B> {
     /// A run that has admitted nothing.
-    fn new(alloc: Global, script: &Script, stock: Stock<B>) -> Result<Run<B>, NoMemory>
+    fn new(
+        alloc: Global,
+        script: &Script,
+        stock: Stock<B>,
+        cells: u32,
+        one_by_one: bool,
+    ) -> Result<Run<B>, NoMemory>
         requires in_range { IsInRange script.now }
         requires built { IsBuilt script.now }
+        requires declares { DeclaresKnown script.now }
         requires covers { Covers script.now stock }
+        requires cells { need script.now ≤ cells }
         ensures { IfOk result (λ run. HasRun script.now [] run.core run.totals) }
     {
-        let core = Core::new(alloc, script, stock, CELLS)?;
+        let core = Core::new(alloc, script, stock, cells)?;
         let totals = Totals {
             comps: 0,
             deliveries: 0,
             refusals: 0,
         };
         let text = Vec::new(alloc);
-        Ok(Run { core, totals, text })
+        Ok(Run {
+            core,
+            totals,
+            text,
+            one_by_one,
+        })
     }
 
-    /// Runs one computation more, and makes its part of the report the text at hand. Where there was no memory, the
-    /// run is of no further use.
+    /// Of so many items, how many may run together: all, or one.
+    fn most(&self, items: usize) -> usize
+        requires { 0 < items }
+        ensures some { 0 < result }
+        ensures within { result ≤ items }
+    {
+        if self.one_by_one { 1 } else { items }
+    }
+
+    /// Runs the first of these items, as many as have room together, and makes their part of the report the text at
+    /// hand. Answers how many: at least one. Where there was no memory, the run is of no further use.
     fn compute(
         &mut self,
         alloc: Global,
         script: &Script,
         calls: bool,
-        ext: Ext,
-    ) -> Result<(), NoMemory>
+        items: &[DoDef],
+    ) -> Result<usize, NoMemory>
         requires in_range { IsInRange script.now }
-        requires named { IsExtOf script.now ext }
-        requires few { length self.old.core.past < 100000 }
-        requires has_run { HasRun script.now self.old.core.past self.old.core self.old.totals }
-        ensures text { OnOk result (self.new.text.items ≡ next_text script.now calls self.old.core.past ext) }
-        ensures has_run { OnOk result (HasRun script.now (self.old.core.past ++ ext ∷ []) self.new.core self.new.totals) }
+        requires some { 0 < length items.now }
+        requires named { All (IsExtOf script.now) (map ext_of items.now) }
+        requires few { length self.old.core.exts + length items.now ≤ 100000 }
+        requires has_run { HasRun script.now self.old.core.exts self.old.core self.old.totals }
+        ensures some { IfOk result (λ count. 0 < count) }
+        ensures within { IfOk result (λ count. count ≤ length items.now) }
+        ensures text { IfOk result (λ count. self.new.text.items ≡ later_text script.now calls self.old.core.exts (take count (map ext_of items.now))) }
+        ensures has_run { IfOk result (λ count. HasRun script.now (self.old.core.exts ++ take count (map ext_of items.now)) self.new.core self.new.totals) }
     {
-        let comp = run_one(alloc, &mut self.core, ext)?;
+        let most = self.most(items.len());
+        let count = admit_part(alloc, &mut self.core, items, most)?;
+        run_to_end(alloc, &mut self.core)?;
         self.text.clear();
-        push_comp(
-            script,
-            &self.core,
-            comp,
-            calls,
-            &mut self.text,
-            &mut self.totals,
-        )?;
+        push_comps(script, &self.core, calls, &mut self.text, &mut self.totals)?;
+        let _admitted = self.core.admitted();
         self.core.clear();
-        self.totals.comps += 1;
-        Ok(())
+        Ok(count)
     }
 
-    /// Runs one computation more, and writes its part of the report.
-    fn write_one<K: Sink>(
+    /// Runs the first of these items, as many as have room together, and writes their part of the report. Answers how
+    /// many: at least one.
+    fn write_part<K: Sink>(
         &mut self,
         alloc: Global,
         script: &Script,
         calls: bool,
-        ext: Ext,
+        items: &[DoDef],
         sink: &mut K,
-    ) -> Result<(), Stop>
+    ) -> Result<usize, Stop>
         requires in_range { IsInRange script.now }
-        requires named { IsExtOf script.now ext }
-        requires few { length self.old.core.past < 100000 }
-        requires has_run { HasRun script.now self.old.core.past self.old.core self.old.totals }
-        ensures all { OnOk result (Appends (K.written sink.old) (K.written sink.new) (next_text script.now calls self.old.core.past ext)) }
-        ensures part { OnErr result (AppendsPrefix (K.written sink.old) (K.written sink.new) (next_text script.now calls self.old.core.past ext)) }
+        requires some { 0 < length items.now }
+        requires named { All (IsExtOf script.now) (map ext_of items.now) }
+        requires few { length self.old.core.exts + length items.now ≤ 100000 }
+        requires has_run { HasRun script.now self.old.core.exts self.old.core self.old.totals }
+        ensures some { IfOk result (λ count. 0 < count) }
+        ensures within { IfOk result (λ count. count ≤ length items.now) }
+        ensures all { IfOk result (λ count. Appends (K.written sink.old) (K.written sink.new) (later_text script.now calls self.old.core.exts (take count (map ext_of items.now)))) }
+        ensures part { OnErr result (AppendsPrefix (K.written sink.old) (K.written sink.new) (later_text script.now calls self.old.core.exts (map ext_of items.now))) }
         ensures cause { StopsFor (K.faults sink.old) (K.faults sink.new) result }
-        ensures has_run { OnOk result (HasRun script.now (self.old.core.past ++ ext ∷ []) self.new.core self.new.totals) }
+        ensures has_run { IfOk result (λ count. HasRun script.now (self.old.core.exts ++ take count (map ext_of items.now)) self.new.core self.new.totals) }
     {
-        self.compute(alloc, script, calls, ext)?;
+        let count = self.compute(alloc, script, calls, items)?;
         write_lines(&self.text, sink)?;
-        Ok(())
+        Ok(count)
     }
 
-    /// Runs the computations of these items, one after another, and writes their part of the report.
+    /// Runs the computations of these items, part by part, and writes their part of the report.
     fn write_batch<K: Sink>(
         &mut self,
         alloc: Global,
@@ -117,15 +141,18 @@ impl<B: Micro> Run<B> {
     ) -> Result<(), Stop>
         requires in_range { IsInRange script.now }
         requires named { All (IsExtOf script.now) (map ext_of items.now) }
-        requires few { length self.old.core.past + length items.now ≤ 100000 }
-        requires has_run { HasRun script.now self.old.core.past self.old.core self.old.totals }
-        ensures all { OnOk result (Appends (K.written sink.old) (K.written sink.new) (later_text script.now calls self.old.core.past (map ext_of items.now))) }
-        ensures part { OnErr result (AppendsPrefix (K.written sink.old) (K.written sink.new) (later_text script.now calls self.old.core.past (map ext_of items.now))) }
+        requires few { length self.old.core.exts + length items.now ≤ 100000 }
+        requires has_run { HasRun script.now self.old.core.exts self.old.core self.old.totals }
+        ensures all { OnOk result (Appends (K.written sink.old) (K.written sink.new) (later_text script.now calls self.old.core.exts (map ext_of items.now))) }
+        ensures part { OnErr result (AppendsPrefix (K.written sink.old) (K.written sink.new) (later_text script.now calls self.old.core.exts (map ext_of items.now))) }
         ensures cause { StopsFor (K.faults sink.old) (K.faults sink.new) result }
-        ensures has_run { OnOk result (HasRun script.now (self.old.core.past ++ map ext_of items.now) self.new.core self.new.totals) }
+        ensures has_run { OnOk result (HasRun script.now (self.old.core.exts ++ map ext_of items.now) self.new.core self.new.totals) }
     {
-        for item in items {
-            self.write_one(alloc, script, calls, ext_of(item), sink)?;
+        let mut rest = items;
+        while !rest.is_empty() {
+            let count = self.write_part(alloc, script, calls, rest, sink)?;
+            let (_, later) = rest.split_at(count);
+            rest = later;
         }
         Ok(())
     }
@@ -159,9 +186,9 @@ impl<B: Micro> Run<B> {
     /// Writes the shown states, node by node, and the last line.
     fn write_end<K: Sink>(&mut self, script: &Script, sink: &mut K) -> Result<(), Stop>
         requires few_micros { length script.now.micros ≤ 24 }
-        requires has_run { HasRun script.now self.old.core.past self.old.core self.old.totals }
-        ensures all { OnOk result (Appends (K.written sink.old) (K.written sink.new) (closing_text script.now self.old.core.past)) }
-        ensures part { OnErr result (AppendsPrefix (K.written sink.old) (K.written sink.new) (closing_text script.now self.old.core.past)) }
+        requires has_run { HasRun script.now self.old.core.exts self.old.core self.old.totals }
+        ensures all { OnOk result (Appends (K.written sink.old) (K.written sink.new) (closing_text script.now self.old.core.exts)) }
+        ensures part { OnErr result (AppendsPrefix (K.written sink.old) (K.written sink.new) (closing_text script.now self.old.core.exts)) }
         ensures cause { StopsFor (K.faults sink.old) (K.faults sink.new) result }
     {
         self.text.clear();
@@ -178,35 +205,28 @@ impl<B: Micro> Run<B> {
     }
 }
 
-/// Runs a script, and writes its report, with the lines of calls where `calls` is given.
+/// Runs a script in a core of so many cells, and writes its report, with the lines of calls where `calls` is given. What
+/// has room runs together, tick by tick, or each computation alone where `one_by_one` is given.
 pub fn write_report<B: Micro, K: Sink>(
     alloc: Global,
     script: &Script,
     stock: Stock<B>,
+    cells: u32,
+    one_by_one: bool,
     calls: bool,
     sink: &mut K,
 ) -> Result<(), Stop>
     requires in_range { IsInRange script.now }
     requires built { IsBuilt script.now }
+    requires declares { DeclaresKnown script.now }
     requires covers { Covers script.now stock }
+    requires cells { need script.now ≤ cells }
     ensures all { OnOk result (Appends (K.written sink.old) (K.written sink.new) (report script.now calls)) }
     ensures part { OnErr result (AppendsPrefix (K.written sink.old) (K.written sink.new) (report script.now calls)) }
     ensures cause { StopsFor (K.faults sink.old) (K.faults sink.new) result }
 {
     let items = by_tick(alloc, script)?;
-    let mut run = Run::new(alloc, script, stock)?;
+    let mut run = Run::new(alloc, script, stock, cells, one_by_one)?;
     run.write_history(alloc, script, calls, &items, sink)?;
     run.write_end(script, sink)
-}
-
-/// An item of the script's list as an admission.
-fn ext_of(item: &DoDef) -> Ext
-    ensures { result ≡ ext_of item.now }
-{
-    Ext {
-        node: item.node,
-        tick: item.tick,
-        cause: item.cause,
-        args: item.args,
-    }
 }

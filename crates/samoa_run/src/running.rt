@@ -1,46 +1,105 @@
-//! One computation, from its admission to its end.
-ghost use Rattle.std.specs.Prelude.{◌≡◌, ◌+◌, ◌<◌, ◌≤◌, length, None, IfOk, OnOk};
-ghost use Rattle.samoa_model.specs.Cells.{cells_of};
+//! A part of a tick: what is admitted together is run to its end.
+ghost use Rattle.std.specs.Prelude.{◌≡◌, ◌+◌, ◌<◌, ◌≤◌, ◌∷◌, [], length, map, take, slice_get, Some, All, IfOk, IfSome, IfNone, OnOk};
+ghost use Rattle.samoa_model.specs.Cells.{cells_of, need};
 ghost use Rattle.samoa_model.specs.Range.{IsExtOf};
-ghost use Rattle.samoa_core.specs.Course.{admitting, away, due, next_number};
-ghost use Rattle.samoa_run.specs.Running.{ended};
+ghost use Rattle.samoa_serial.specs.History.{ext_of as as_ext};
+ghost use Rattle.samoa_invariant.specs.State.{AllEnded, NothingOut};
+ghost use Rattle.samoa_invariant.specs.Runs.{state};
+ghost use Rattle.samoa_core.specs.Scans.{IsLater};
+ghost use Rattle.samoa_core.specs.Since.{cleared_comps};
+ghost use Rattle.samoa_run.specs.Running.{HasOpened};
 
 use samoa_core::Core;
 use samoa_micro::Micro;
-use samoa_model::{Ext, NoMemory};
+use samoa_model::{DoDef, Ext, NoMemory};
+use samoa_workers::{Batch, drain};
 use std::alloc::Global;
 
-/// Admits a computation and runs it to its end, and answers its number. Where there was no memory, the core is of no
-/// further use: a microprotocol may be lost.
-pub fn run_one<B: Micro>(alloc: Global, core: &mut Core<B>, ext: Ext) -> Result<u32, NoMemory>
-    requires idle { core.old.present ≡ None }
-    requires fits { core.old.held + cells_of core.old.script ext ≤ core.old.cells }
-    requires few { length core.old.past < 100000 }
-    requires named { IsExtOf core.old.script ext }
-    ensures number { IfOk result (λ comp. comp ≡ next_number core.old) }
-    ensures ended { OnOk result (core.new ≡ ended (admitting core.old ext (cells_of core.old.script ext))) }
+/// Admits the first of these items, as many as have room together, and at most so many. Answers how many: at least
+/// one, since the core holds no cells. Where there was no memory, some may be admitted.
+pub fn admit_part<B: Micro>(
+    alloc: Global,
+    core: &mut Core<B>,
+    items: &[DoDef],
+    most: usize,
+) -> Result<usize, NoMemory>
+    requires some { 0 < most }
+    requires within { most ≤ length items.now }
+    requires named { All (IsExtOf core.old.script) (map as_ext items.now) }
+    requires few { length core.old.exts + length items.now ≤ 100000 }
+    requires none_held { (state core.old).cells ≡ 0 }
+    requires room { need core.old.script ≤ core.old.cells }
+    ensures some { IfOk result (λ count. 0 < count) }
+    ensures most { IfOk result (λ count. count ≤ most) }
+    ensures opened { IfOk result (λ count. HasOpened core.old (take count (map as_ext items.now)) core.new) }
+    ensures held { OnOk result (0 < (state core.new).cells) }
 {
-    let Ok(comp) = core.admit(alloc, ext) else {
-        return Err(NoMemory);
-    };
-    core.settle();
-    drain(alloc, core)?;
-    Ok(comp)
+    let mut count = 0;
+    while let Some(ext) = next_fitting(core, items, count, most) {
+        admit(alloc, core, ext)?;
+        count += 1;
+    }
+    Ok(count)
 }
 
-/// Makes the handler steps of the open computation, if there is one, until it has ended.
-fn drain<B: Micro>(alloc: Global, core: &mut Core<B>) -> Result<(), NoMemory>
-    requires home { away core.old ≡ None }
-    requires due { due core.old ≡ None → core.old.present ≡ None }
-    ensures { OnOk result (core.new ≡ ended core.old) }
+/// The item at this place as an admission, where it is among so many and has room beside what is open.
+fn next_fitting<B: Micro>(core: &Core<B>, items: &[DoDef], at: usize, most: usize) -> Option<Ext>
+    requires at { at ≤ most }
+    requires within { most ≤ length items.now }
+    requires named { All (IsExtOf core.now.script) (map as_ext items.now) }
+    ensures more { IfSome result (λ ext. at < most) }
+    ensures item { IfSome result (λ ext. slice_get (map as_ext items.now) at ≡ Some ext) }
+    ensures named { IfSome result (λ ext. IsExtOf core.now.script ext) }
+    ensures fits { IfSome result (λ ext. (state core.now).cells + cells_of core.now.script ext ≤ core.now.cells) }
+    ensures last { IfNone result ((state core.now).cells ≡ 0 → need core.now.script ≤ core.now.cells → at ≡ most) }
 {
-    while let Some(comp) = core.pick() {
-        let turn = core.enter(comp);
-        let Ok(ran) = turn.run(alloc) else {
-            return Err(NoMemory);
-        };
-        core.leave(ran);
-        core.settle();
+    if at == most {
+        return None;
     }
-    Ok(())
+    let ext = ext_of(&items[at]);
+    if core.fits(&ext) { Some(ext) } else { None }
+}
+
+/// Admits one computation, which has room.
+fn admit<B: Micro>(alloc: Global, core: &mut Core<B>, ext: Ext) -> Result<(), NoMemory>
+    requires fits { (state core.old).cells + cells_of core.old.script ext ≤ core.old.cells }
+    requires few { length core.old.exts < 100000 }
+    requires named { IsExtOf core.old.script ext }
+    ensures opened { OnOk result (HasOpened core.old (ext ∷ []) core.new) }
+    ensures held { OnOk result (0 < (state core.new).cells) }
+{
+    let _admitted = core.admitted();
+    match core.admit(alloc, ext) {
+        Ok(_) => Ok(()),
+        Err((_, fault)) => Err(fault),
+    }
+}
+
+/// Runs what was admitted to its end. Where there was no memory, a computation may stay open for good.
+pub fn run_to_end<B: Micro>(alloc: Global, core: &mut Core<B>) -> Result<(), NoMemory>
+    requires home { NothingOut (state core.old) }
+    ensures all { OnOk result (AllEnded (state core.new)) }
+    ensures home { NothingOut (state core.new) }
+    ensures later { IsLater core.old core.new }
+    ensures cleared { cleared_comps core.new ≡ cleared_comps core.old }
+    ensures held { (state core.old).cells ≤ (state core.new).cells }
+{
+    let _admitted = core.admitted();
+    core.settle();
+    match drain(alloc, core) {
+        Batch::Done => Ok(()),
+        Batch::Memory => Err(NoMemory),
+    }
+}
+
+/// An item of the script's list as an admission.
+fn ext_of(item: &DoDef) -> Ext
+    ensures { result ≡ as_ext item.now }
+{
+    Ext {
+        node: item.node,
+        tick: item.tick,
+        cause: item.cause,
+        args: item.args,
+    }
 }

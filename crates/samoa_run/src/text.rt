@@ -1,9 +1,12 @@
 //! Parts of the report, as a text in memory.
-ghost use Rattle.std.specs.Prelude.{◌≡◌, ◌+◌, ◌-◌, ◌<◌, ◌≤◌, ◌^◌, ◌++◌, length, None, Some, OnOk, slice_get};
+ghost use Rattle.std.specs.Prelude.{◌≡◌, ℕ, ◌+◌, ◌-◌, ◌<◌, ◌≤◌, ◌^◌, ◌++◌, length, take, drop, true, Some, OnOk, slice_get};
 ghost use Rattle.samoa_model.specs.declared.record.Ext.{Ext};
+ghost use Rattle.samoa_model.specs.Range.{IsInRange};
 ghost use Rattle.samoa_serial.specs.Report.{comp_text, entries_text, node_text, states_text};
-ghost use Rattle.samoa_core.specs.Course.{away, ended_at, states_of};
-ghost use Rattle.samoa_run.specs.Running.{Counts};
+ghost use Rattle.samoa_invariant.specs.State.{AllEnded, NothingOut};
+ghost use Rattle.samoa_invariant.specs.Runs.{served_at, state};
+ghost use Rattle.samoa_core.specs.Since.{cleared_comps};
+ghost use Rattle.samoa_run.specs.Running.{AreTotals, Counts, later_text, states_of};
 
 use crate::totals::Totals;
 use samoa_core::Core;
@@ -11,10 +14,35 @@ use samoa_micro::Micro;
 use samoa_model::{MicroId, NoMemory, NodeId, Script};
 use samoa_report::{end_line, entry_line, ext_line, state_line};
 
+/// Appends the lines of all computations from the first that isn't counted on, and counts them. All have ended, and
+/// those weren't cleared away. Where there was no memory, some lines may be missing, and some may be counted.
+pub fn push_comps<B: Micro>(
+    script: &Script,
+    core: &Core<B>,
+    calls: bool,
+    text: &mut Vec<u8>,
+    totals: &mut Totals,
+) -> Result<(), NoMemory>
+    requires in_range { IsInRange script.now }
+    requires script { core.now.script ≡ script.now }
+    requires all { AllEnded (state core.now) }
+    requires kept { cleared_comps core.now ≤ totals.old.comps }
+    requires counted { AreTotals script.now (take totals.old.comps core.now.exts) totals.old }
+    ensures text { OnOk result (text.new.items ≡ text.old.items ++ later_text script.now calls (take totals.old.comps core.now.exts) (drop totals.old.comps core.now.exts)) }
+    ensures counted { OnOk result (AreTotals script.now core.now.exts totals.new) }
+{
+    while totals.comps < core.admitted() {
+        let comp = totals.comps + 1;
+        push_comp(script, core, comp, calls, text, totals)?;
+        totals.comps += 1;
+    }
+    Ok(())
+}
+
 /// Appends the lines of a computation that has ended and wasn't cleared away, and counts its deliveries and refusals.
 /// The lines of calls are among them where `calls` is given.
 /// Where there was no memory, some lines may be missing, and some may be counted.
-pub fn push_comp<B: Micro>(
+fn push_comp<B: Micro>(
     script: &Script,
     core: &Core<B>,
     comp: u32,
@@ -22,13 +50,14 @@ pub fn push_comp<B: Micro>(
     text: &mut Vec<u8>,
     totals: &mut Totals,
 ) -> Result<(), NoMemory>
-    requires kept { core.now.cleared < comp }
-    requires ended { comp ≤ length core.now.past }
-    requires deliveries { totals.old.deliveries + length (ended_at core.now comp).world.entries < 2 ^ 64 }
-    requires refusals { totals.old.refusals + length (ended_at core.now comp).world.entries < 2 ^ 64 }
-    ensures text { OnOk result ((ext : Ext) → slice_get core.now.past (comp - 1) ≡ Some ext
-        → text.new.items ≡ text.old.items ++ comp_text script.now calls comp ext (ended_at core.now comp)) }
-    ensures totals { OnOk result (Counts (ended_at core.now comp).world.entries totals.old totals.new) }
+    requires kept { cleared_comps core.now < comp }
+    requires admitted { comp ≤ length core.now.exts }
+    requires ended { (state core.now).ended (comp - 1) ≡ true }
+    requires deliveries { totals.old.deliveries + length (served_at core.now comp).world.entries < 2 ^ 64 }
+    requires refusals { totals.old.refusals + length (served_at core.now comp).world.entries < 2 ^ 64 }
+    ensures text { OnOk result ((ext : Ext) → slice_get core.now.exts (comp - 1) ≡ Some ext
+        → text.new.items ≡ text.old.items ++ comp_text script.now calls comp ext (served_at core.now comp)) }
+    ensures totals { OnOk result (Counts (served_at core.now comp).world.entries totals.old totals.new) }
 {
     let ext = core.ext(comp);
     ext_line(script, comp, &ext, text)?;
@@ -46,12 +75,13 @@ fn push_entries<B: Micro>(
     text: &mut Vec<u8>,
     totals: &mut Totals,
 ) -> Result<(), NoMemory>
-    requires kept { core.now.cleared < comp }
-    requires ended { comp ≤ length core.now.past }
-    requires deliveries { totals.old.deliveries + length (ended_at core.now comp).world.entries < 2 ^ 64 }
-    requires refusals { totals.old.refusals + length (ended_at core.now comp).world.entries < 2 ^ 64 }
-    ensures text { OnOk result (text.new.items ≡ text.old.items ++ entries_text script.now comp calls (ended_at core.now comp).world.entries) }
-    ensures totals { OnOk result (Counts (ended_at core.now comp).world.entries totals.old totals.new) }
+    requires kept { cleared_comps core.now < comp }
+    requires admitted { comp ≤ length core.now.exts }
+    requires ended { (state core.now).ended (comp - 1) ≡ true }
+    requires deliveries { totals.old.deliveries + length (served_at core.now comp).world.entries < 2 ^ 64 }
+    requires refusals { totals.old.refusals + length (served_at core.now comp).world.entries < 2 ^ 64 }
+    ensures text { OnOk result (text.new.items ≡ text.old.items ++ entries_text script.now comp calls (served_at core.now comp).world.entries) }
+    ensures totals { OnOk result (Counts (served_at core.now comp).world.entries totals.old totals.new) }
 {
     let mut at = 0;
     while let Some(entry) = core.entry(comp, at) {
@@ -69,7 +99,8 @@ pub fn push_states<B: Micro>(
     text: &mut Vec<u8>,
 ) -> Result<(), NoMemory>
     requires script { core.now.script ≡ script.now }
-    requires home { away core.now ≡ None }
+    requires all { AllEnded (state core.now) }
+    requires home { NothingOut (state core.now) }
     requires few { length script.now.micros < 2 ^ 32 }
     ensures { OnOk result (text.new.items ≡ text.old.items ++ states_text script.now (states_of core.now) script.now.nodes) }
 {
@@ -87,7 +118,8 @@ fn push_node<B: Micro>(
     text: &mut Vec<u8>,
 ) -> Result<(), NoMemory>
     requires script { core.now.script ≡ script.now }
-    requires home { away core.now ≡ None }
+    requires all { AllEnded (state core.now) }
+    requires home { NothingOut (state core.now) }
     requires few { length script.now.micros < 2 ^ 32 }
     requires node { node.0 < script.now.nodes }
     ensures { OnOk result (text.new.items ≡ text.old.items ++ node_text script.now (states_of core.now) node.0 (length script.now.micros)) }

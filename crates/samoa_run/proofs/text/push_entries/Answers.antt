@@ -2,7 +2,7 @@ use Rattle.std.proofs.Common.{◌≡◌, ◌+◌, ◌<◌, ◌++◌, ◌∙◌, 
 use Rattle.samoa_model.specs.declared.record.Entry.{Entry}
 use Rattle.samoa_serial.specs.Lines.{entry_text}
 use Rattle.samoa_serial.specs.Report.{entries_text, is_delivery, is_refusal}
-use Rattle.samoa_core.specs.Course.{ended_at}
+use Rattle.samoa_invariant.specs.Runs.{served_at}
 use Rattle.samoa_run.proofs.EntrySteps.{count_by-one_more, entries_text-one_more, found_within, room_for_one, take_whole}
 use Rattle.samoa_run.proofs.text.push_entries.Goals as goal
 
@@ -25,7 +25,7 @@ loop-entry-preserved g c =
     let script = c.args.script.now in
     let comp = c.args.comp in
     let calls = c.args.calls in
-    let entries = (ended_at c.args.core.now comp).world.entries in
+    let entries = (served_at c.args.core.now comp).world.entries in
     let at = c.loop-entry.at in
     let entry = c.in-Some.entry in
     let start = c.args.text.now.items in

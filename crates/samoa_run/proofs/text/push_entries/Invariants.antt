@@ -1,11 +1,11 @@
 use Rattle.std.proofs.Common.{◌≡◌, ◌+◌, ◌-◌, ◌≤◌, ◌++◌, length, take, count_by}
 use Rattle.samoa_serial.specs.Report.{entries_text, is_delivery, is_refusal}
-use Rattle.samoa_core.specs.Course.{ended_at}
+use Rattle.samoa_invariant.specs.Runs.{served_at}
 use Rattle.samoa_run.proofs.text.push_entries.Given as goal
 
 abbrev pub invariant-loop-entry : goal.invariant-loop-entry
 invariant-loop-entry g l =
-    let entries = (ended_at l.core l.comp).world.entries in record {
+    let entries = (served_at l.core l.comp).world.entries in record {
       within : l.at ≤ length entries;
       text : l.text.items ≡ l.initial.text.items ++ entries_text l.script l.comp l.calls (take l.at entries);
       comps : l.totals.comps ≡ l.initial.totals.comps;
@@ -14,4 +14,4 @@ invariant-loop-entry g l =
     }
 
 abbrev pub decreases-loop-entry : goal.decreases-loop-entry
-decreases-loop-entry g l = length (ended_at l.core l.comp).world.entries - l.at
+decreases-loop-entry g l = length (served_at l.core l.comp).world.entries - l.at

@@ -1,6 +1,6 @@
 use Rattle.std.proofs.Common.{◌≡◌, ◌++◌}
 use Rattle.samoa_serial.specs.Report.{node_text}
-use Rattle.samoa_core.specs.Course.{states_of}
+use Rattle.samoa_run.specs.Running.{states_of}
 use Rattle.samoa_run.proofs.text.push_node.Given as goal
 
 abbrev pub invariant-loop-micro : goal.invariant-loop-micro

@@ -1,6 +1,6 @@
 use Rattle.std.proofs.Common.{◌≡◌, ◌++◌}
 use Rattle.samoa_serial.specs.Report.{states_text}
-use Rattle.samoa_core.specs.Course.{states_of}
+use Rattle.samoa_run.specs.Running.{states_of}
 use Rattle.samoa_run.proofs.text.push_states.Given as goal
 
 abbrev pub invariant-loop-node : goal.invariant-loop-node

@@ -1,14 +1,16 @@
-use Rattle.std.proofs.Common.{◌≡◌, ◌≤◌, ◌++◌, map, take}
-use Rattle.std.specs.Io.KnownBytes.{Appends}
+use Rattle.std.proofs.Common.{◌≤◌, length, map}
+use Rattle.std.specs.List.{All}
+use Rattle.samoa_model.specs.Range.{IsExtOf}
 use Rattle.samoa_serial.specs.History.{ext_of}
-use Rattle.samoa_run.specs.Running.{HasRun, later_text}
+use Rattle.samoa_run.proofs.Batches.{RanTo}
 use Rattle.samoa_run.proofs.report.Run.write_batch.Given as goal
 
-abbrev pub invariant-loop-item : goal.invariant-loop-item
-invariant-loop-item g l =
-    let past = l.initial.self.core.past in
-    let done = map ext_of (take l.item-index l.items) in record {
-      written : Appends (g.K.Sink.written l.initial.sink) (g.K.Sink.written l.sink) (later_text l.script l.calls past done);
-      later : g.K.Sink.faults l.initial.sink ≤ g.K.Sink.faults l.sink;
-      has_run : HasRun l.script (past ++ done) l.self.core l.self.totals;
-    }
+abbrev pub invariant-loop-rest : goal.invariant-loop-rest
+invariant-loop-rest g l = record {
+  ran : RanTo l.script l.calls l.initial.self.core.exts l.items l.rest (g.K.Sink.written l.initial.sink) (g.K.Sink.written l.sink) l.self.core l.self.totals;
+  later : g.K.Sink.faults l.initial.sink ≤ g.K.Sink.faults l.sink;
+  named : All (IsExtOf l.script) (map ext_of l.rest);
+}
+
+abbrev pub decreases-loop-rest : goal.decreases-loop-rest
+decreases-loop-rest g l = length l.rest

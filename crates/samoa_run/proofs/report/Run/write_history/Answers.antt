@@ -4,7 +4,6 @@ use Rattle.std.specs.Io.KnownBytes.{Appends}
 use Rattle.samoa_model.specs.declared.record.Ext.{Ext}
 use Rattle.samoa_model.specs.declared.script.DoDef.{DoDef}
 use Rattle.samoa_serial.proofs.HistoryLaws.{history_to-none}
-use Rattle.samoa_core.specs.Course.{Course}
 use Rattle.samoa_run.specs.Running.{HasRun, later_text}
 use Rattle.samoa_run.specs.Schedule.{of_tick}
 use Rattle.samoa_run.proofs.Histories.{IsNext, all_ticks, batch_few, batch_named, has_run-batch, items_late, wrote_batch, wrote_batch_in_part}
@@ -37,14 +36,14 @@ write_batch-requires-clause-few g c =
     let before = c.loop-before.before in
     let items : c.split_at.result.0.now ≡ of_tick (before + 1) c.args.script.now.does
     = c.split_at.ensures.front ∙ first_of_tick _ _ before c.count_of_tick.result c.loop-before.invariant.remains c.count_of_tick.ensures.before c.count_of_tick.ensures.next in
-    batch_few c.args.script.now before c.loop-before.self.core.past c.split_at.result.0.now c.requires.in_range (ap (λ (d : Course). d.past) c.loop-before.invariant.has_run.idle, items)
+    batch_few c.args.script.now before c.loop-before.self.core.exts c.split_at.result.0.now c.requires.in_range (c.loop-before.invariant.has_run.exts, items)
 
 pub returns-in_err-write_batch-clause-part : goal.returns-in_err-write_batch-clause-part
 returns-in_err-write_batch-clause-part g c =
     let before = c.loop-before.before in
     let items : c.split_at.result.0.now ≡ of_tick (before + 1) c.args.script.now.does
     = c.split_at.ensures.front ∙ first_of_tick _ _ before c.count_of_tick.result c.loop-before.invariant.remains c.count_of_tick.ensures.before c.count_of_tick.ensures.next in
-    on_err c.from_residual.result (wrote_batch_in_part c.args.script.now c.args.calls before c.loop-before.self.core.past c.split_at.result.0.now _ _ _ (omega arith) (ap (λ (d : Course). d.past) c.loop-before.invariant.has_run.idle, items)
+    on_err c.from_residual.result (wrote_batch_in_part c.args.script.now c.args.calls before c.loop-before.self.core.exts c.split_at.result.0.now _ _ _ (omega arith) (c.loop-before.invariant.has_run.exts, items)
     c.loop-before.invariant.written c.in_err-write_batch.ensures.part)
 
 pub loop-before-preserved : goal.loop-before-preserved
@@ -52,12 +51,12 @@ loop-before-preserved g c =
     let before = c.loop-before.before in
     let items : c.split_at.result.0.now ≡ of_tick (before + 1) c.args.script.now.does
     = c.split_at.ensures.front ∙ first_of_tick _ _ before c.count_of_tick.result c.loop-before.invariant.remains c.count_of_tick.ensures.before c.count_of_tick.ensures.next in
-    let next : IsNext c.args.script.now before c.loop-before.self.core.past c.split_at.result.0.now = (ap (λ (d : Course). d.past) c.loop-before.invariant.has_run.idle, items) in
+    let next : IsNext c.args.script.now before c.loop-before.self.core.exts c.split_at.result.0.now = (c.loop-before.invariant.has_run.exts, items) in
     let R : List DoDef → Type 0 = λ rest. Remains c.args.script.now.does (before + 1) rest in
     record {
-      written = wrote_batch c.args.script.now c.args.calls before c.loop-before.self.core.past c.split_at.result.0.now _ _ _ next c.loop-before.invariant.written c.in_ok-write_batch.ensures.all;
+      written = wrote_batch c.args.script.now c.args.calls before c.loop-before.self.core.exts c.split_at.result.0.now _ _ _ next c.loop-before.invariant.written c.in_ok-write_batch.ensures.all;
       later = omega (arith, c.loop-before.invariant.later, c.write_batch.ensures.cause.later);
-      has_run = has_run-batch c.args.script.now before c.loop-before.self.core.past c.split_at.result.0.now _ _ next c.in_ok-write_batch.ensures.has_run;
+      has_run = has_run-batch c.args.script.now before c.loop-before.self.core.exts c.split_at.result.0.now _ _ next c.in_ok-write_batch.ensures.has_run;
       remains = subst R (sym c.split_at.ensures.back) (remains_next _ _ before c.count_of_tick.result c.loop-before.invariant.remains c.count_of_tick.ensures.before c.count_of_tick.ensures.next);
     }
 

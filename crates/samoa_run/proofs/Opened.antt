@@ -1,0 +1,80 @@
+-- Admissions to a core in which nothing is out.
+use Rattle.std.proofs.Common.{arith, ◌≡◌, ℕ, zero, suc, ◌+◌, ◌-◌, ◌*◌, ◌<◌, ◌≤◌, max, refl, sym, ap, ◌∙◌, List, [], ◌∷◌, ◌++◌, append_assoc, append-nil, length, map, get_or, Some, slice_get, take, subst}
+use Rattle.std.specs.List.{All}
+use Rattle.std.specs.Prelude.{option_map}
+use Rattle.std.proofs.lemmas.List.{get_or-map, length-map}
+use Rattle.std.proofs.lemmas.List.Elements.{All-get_or}
+use Rattle.std.proofs.lemmas.Option.{slice_get-map, slice_get-get_or}
+use Rattle.samoa_model.specs.declared.record.Ext.{Ext}
+use Rattle.samoa_model.specs.declared.record.Step.{Step}
+use Rattle.samoa_model.specs.declared.script.DeclDef.{DeclDef}
+use Rattle.samoa_model.specs.declared.script.DoDef.{DoDef}
+use Rattle.samoa_model.specs.declared.script.Script.{Script}
+use Rattle.samoa_model.specs.Cells.{cells_of, greatest_budget, need}
+use Rattle.samoa_model.specs.Scripts.{decl_of, no_decl}
+use Rattle.samoa_serial.specs.History.{ext_of}
+use Rattle.samoa_invariant.specs.State as model
+use Rattle.samoa_invariant.specs.Runs.{IsRun, Trace, ext_at, play, state, with_ext}
+use Rattle.samoa_invariant.proofs.Traces.{is_run-with_ext, state-ext, state-step}
+use Rattle.samoa_core.specs.Admission.{admitted}
+use Rattle.samoa_core.specs.Since.{cleared_comps}
+use Rattle.samoa_core.proofs.Since.{cleared-ext, cleared-step}
+use Rattle.samoa_run.specs.Running.{HasOpened}
+
+state-admitted : (t : Trace) (ext : Ext) → IsRun t → state (admitted t ext) ≡ model.admit (play (with_ext t ext)) (state t)
+state-admitted t ext run =
+    state-step (with_ext t ext) (Step.Admit (length t.exts + 1)) (is_run-with_ext t ext run)
+    ∙ ap (λ (core : model.Core). model.admit (play (with_ext t ext)) core) (state-ext t ext run)
+
+-- one was admitted
+pub opened_one : (t u : Trace) (ext : Ext) → IsRun t → u ≡ admitted t ext → HasOpened t (ext ∷ []) u
+opened_one t u ext run is = record {
+  script = ap (λ (x : Trace). x.script) is;
+  cells = ap (λ (x : Trace). x.cells) is;
+  exts = ap (λ (x : Trace). x.exts) is;
+  cleared = ap cleared_comps is ∙ (cleared-step (with_ext t ext) (Step.Admit (length t.exts + 1)) (is_run-with_ext t ext run) ∙ cleared-ext t ext);
+  out = λ node p. ap (λ (x : Trace). (state x).out node p) is ∙ ap (λ (core : model.Core). core.out node p) (state-admitted t ext run);
+}
+
+-- and holds cells
+pub opened_holds : (t u : Trace) (ext : Ext) → IsRun t → u ≡ admitted t ext → 0 < (state u).cells
+opened_holds t u ext run is =
+    let budget : ℕ = (decl_of t.script (ext_at (t.exts ++ ext ∷ []) (state t).count)).budget in
+    let held : (state u).cells ≡ (state t).cells + (16 * budget + 16)
+    = ap (λ (x : Trace). (state x).cells) is ∙ ap (λ (core : model.Core). core.cells) (state-admitted t ext run) in
+    omega (arith, held)
+
+-- none were, and then more
+pub opened_none : (t : Trace) → HasOpened t [] t
+opened_none t = record { script = refl; cells = refl; exts = sym (append-nil t.exts); cleared = refl; out = λ node p. refl }
+
+pub opened_more : (t u w : Trace) (xs ys : List Ext) → HasOpened t xs u → HasOpened u ys w → HasOpened t (xs ++ ys) w
+opened_more t u w xs ys a b = record {
+  script = b.script ∙ a.script;
+  cells = b.cells ∙ a.cells;
+  exts = b.exts ∙ (ap (λ (l : List Ext). l ++ ys) a.exts ∙ append_assoc t.exts xs ys);
+  cleared = b.cleared ∙ a.cleared;
+  out = λ node p. b.out node p ∙ a.out node p;
+}
+
+budget_within : (decls : List DeclDef) (n : ℕ) → (get_or decls n no_decl).budget ≤ greatest_budget decls
+budget_within [] n = omega arith
+budget_within (d ∷ decls) zero = omega arith
+budget_within (d ∷ decls) (suc n) = let rest = budget_within decls n in omega arith
+
+-- a core that can hold what the script needs has room for any computation while it holds none
+pub one_fits : (script : Script) (ext : Ext) (held cells : ℕ) → held ≡ 0 → need script ≤ cells → held + cells_of script ext ≤ cells
+one_fits script ext held cells none room =
+    let most : (decl_of script ext).budget ≤ greatest_budget script.decls = budget_within script.decls _ in omega (arith, most)
+
+-- an item as an admission
+pub item_there : (items : List DoDef) (i : ℕ) (item : DoDef) (ext : Ext) → i < length items → item ≡ get_or items i item → ext ≡ ext_of item → slice_get (map ext_of items) i ≡ Some ext
+item_there items i item ext within is e =
+    slice_get-map ext_of items i
+    ∙ (ap (option_map ext_of) (slice_get-get_or items i item within) ∙ ap (λ (x : Ext). Some x) (ap ext_of (sym is) ∙ sym e))
+
+pub item_named : (P : Ext → Type 0) (items : List DoDef) (i : ℕ) (item : DoDef) (ext : Ext) → i < length items → item ≡ get_or items i item → ext ≡ ext_of item
+    → All P (map ext_of items) → P ext
+item_named P items i item ext within is e all =
+    let as_many : i < length (map ext_of items) = omega (arith, length-map items ext_of) in
+    subst P (get_or-map ext_of items i item ext within ∙ (ap ext_of (sym is) ∙ sym e)) (All-get_or P (map ext_of items) i ext as_many all)

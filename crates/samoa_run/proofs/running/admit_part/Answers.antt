@@ -1,0 +1,19 @@
+use Rattle.std.proofs.Common.{◌≡◌, ◌+◌, ◌++◌, ◌∷◌, [], List, arith, map, subst, sym, take}
+use Rattle.samoa_model.specs.declared.record.Ext.{Ext}
+use Rattle.samoa_serial.specs.History.{ext_of}
+use Rattle.samoa_run.specs.Running.{HasOpened}
+use Rattle.samoa_run.proofs.EntrySteps.{take_one_more}
+use Rattle.samoa_run.proofs.Opened.{opened_more}
+use Rattle.samoa_run.proofs.running.admit_part.Goals as goal
+
+pub loop-ext-preserved : goal.loop-ext-preserved
+loop-ext-preserved g c =
+    let exts : List Ext = map ext_of c.args.items.now in
+    let H : List Ext → Type 0 = λ l. HasOpened c.args.core.now l c.admit.new.core in
+    record {
+      most = omega (arith, c.in-Some.ensures.more);
+      opened = subst H (sym (take_one_more exts c.loop-ext.count c.in-Some.ext (sym c.in-Some.ensures.item)))
+          (opened_more c.args.core.now c.loop-ext.core c.admit.new.core (take c.loop-ext.count exts) (c.in-Some.ext ∷ []) c.loop-ext.invariant.opened c.in_ok-admit.ensures.opened);
+      none_held = λ none. absurd (omega (arith, none));
+      held = λ some. c.in_ok-admit.ensures.held;
+    }
