@@ -1,6 +1,7 @@
 pub mod Batches
 pub mod Boxes
 pub mod Closing
+pub mod Declares
 pub mod EntryBound
 pub mod EntrySteps
 pub mod Histories
@@ -13,7 +14,7 @@ pub mod Opened
 pub mod Parts
 pub mod Progress
 pub mod Remaining
-pub mod Runnable
 pub mod RunOnce
+pub mod Runnable
 pub mod Served
 pub mod Ticks

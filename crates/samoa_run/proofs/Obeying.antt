@@ -7,8 +7,8 @@ use Rattle.samoa_ends.specs.Causes.{Rose}
 use Rattle.samoa_script.specs.declared.fault.ScriptFault.{ScriptFault}
 use Rattle.samoa_run.specs.Readings.{IsReading}
 use Rattle.samoa_run.specs.declared.words.Order.{Order}
-use Rattle.samoa_run.specs.Due.{can_do, due_status, due_text, fault_line, not_yet_line, output}
-use Rattle.samoa_run.specs.Serving.{Answers, Ends, IsRefused, faulty, not_yet, NoFault, Obeys}
+use Rattle.samoa_run.specs.Due.{can_do, due_status, due_text, fault_line, turned_away_line, output}
+use Rattle.samoa_run.specs.Serving.{Answers, Ends, IsRefused, faulty, turned_away, NoFault, Obeys}
 
 -- what was read, and what was answered for it
 pub record Told (order : Order) (ends : Ends) (status : ℕ) : Type 0 where
@@ -27,7 +27,7 @@ three_if_not true h = absurd (omega arith)
 three_if_not false h = refl
 
 refused_so : (order : Order) (input : List ℕ) (found : Result Script ScriptFault) → IsReading input found → due_status order found ≡ 3 → IsRefused order input
-refused_so order input (Ok script) held is = not_yet script held (three_if_not (can_do order script) is)
+refused_so order input (Ok script) held is = turned_away script held (three_if_not (can_do order script) is)
 refused_so order input (Err fault) fails is = faulty fault fails
 
 -- where no count rose, the due status or want of memory
@@ -45,13 +45,13 @@ pub obeyed : (order : Order) (ends : Ends) (status : ℕ) → Told order ends st
     → (status ≡ 4 → Rose ends.source_faults ends.source_faults_after) → (status ≡ 5 → Rose ends.sink_faults ends.sink_faults_after)
     → (status ≡ 0) ⊎ ((status ≡ 3) ⊎ ((status ≡ 4) ⊎ ((status ≡ 5) ⊎ (status ≡ 6)))) → Obeys order ends status
 obeyed order ends status told read refused_read source sink statuses =
-    let W : (script : Script) → Bool → Type 0 = λ script b. Answers (cond b 0 3) (cond b (output order script) not_yet_line) ends.written ends.written_after status in
+    let W : (script : Script) → Bool → Type 0 = λ script b. Answers (cond b 0 3) (cond b (output order script) (turned_away_line order script)) ends.written ends.written_after status in
     let C : Bool → Type 0 = λ b. (status ≡ cond b 0 3) ⊎ ((status ≡ 4) ⊎ ((status ≡ 5) ⊎ (status ≡ 6))) in
     let refused : (input : List ℕ) → ends.left ≡ Some input → IsRefused order input → NoFault ends → (status ≡ 3) ⊎ (status ≡ 6)
     = λ input left is fine. when_refused input left is fine in
     record {
       done = λ input script left held can. subst (W script) can (told.written input (Ok script) left held);
-      not_yet = λ input script left held can. subst (W script) can (told.written input (Ok script) left held);
+      turned_away = λ input script left held can. subst (W script) can (told.written input (Ok script) left held);
       refused = λ input fault left fails. told.written input (Err fault) left fails;
       refused_only = λ input left is. let found = told.refused_only input left is in refused_so order input found.0 found.1.0 found.1.1;
       complete = λ input script left held can fine. without_fault ends status 0 fine source sink (subst C can (told.complete input (Ok script) left held));
@@ -65,6 +65,6 @@ obeyed order ends status told read refused_read source sink statuses =
   where
     when_refused : (input : List ℕ) → ends.left ≡ Some input → IsRefused order input → NoFault ends → (status ≡ 3) ⊎ (status ≡ 6)
     when_refused input left (faulty fault fails) fine = without_fault ends status 3 fine source sink (told.complete input (Err fault) left fails)
-    when_refused input left (not_yet script held can) fine =
+    when_refused input left (turned_away script held can) fine =
         let C : Bool → Type 0 = λ b. (status ≡ cond b 0 3) ⊎ ((status ≡ 4) ⊎ ((status ≡ 5) ⊎ (status ≡ 6))) in
         without_fault ends status 3 fine source sink (subst C can (told.complete input (Ok script) left held))

@@ -1,8 +1,8 @@
 -- What is known of a script that can run by now.
-use Rattle.std.proofs.Common.{◌≡◌, ℕ, ◌*◌, ◌≤◌, ◌&&◌, true, List, [], ◌∷◌, length, refl, ap, ◌∙◌, arith, nat_le, eqb-true}
+use Rattle.std.proofs.Common.{◌≡◌, ℕ, ◌*◌, ◌≤◌, ◌&&◌, Bool, true, List, [], ◌∷◌, length, refl, ap, ◌∙◌, arith, nat_le, eqb-true}
 use Rattle.std.specs.List.{All, count_by, list_all}
 use Rattle.std.proofs.lemmas.Bool.{and_parts, le-leb}
-use Rattle.std.proofs.lemmas.List.Elements.{All-nil, All-cons}
+use Rattle.std.proofs.lemmas.List.Elements.{All-nil, All-cons, All-head, All-tail}
 use Rattle.std.proofs.lemmas.List.Sums.{count_by-le-length}
 use Rattle.samoa_model.specs.declared.setup.Kind.{Kind}
 use Rattle.samoa_model.specs.declared.setup.Kind.TheVariants.{Prog, Link, Fd, Rbcast, Cons, Abcast, Seqcast, Repl, Views}
@@ -11,9 +11,12 @@ use Rattle.samoa_model.specs.declared.script.MicroDef.{MicroDef}
 use Rattle.samoa_model.specs.declared.script.Decl.{Decl}
 use Rattle.samoa_model.specs.declared.script.DeclDef.{DeclDef}
 use Rattle.samoa_model.specs.declared.script.Script.{Script}
-use Rattle.samoa_model.specs.Range.{IsSet, IsBuilt, IsInRange}
+use Rattle.samoa_model.specs.Range.{HasBudget, IsSet, IsBuilt, IsInRange}
 use Rattle.samoa_micro.specs.Covers.{Covers, count_of, wanted}
 use Rattle.samoa_micro.proofs.CoverLaws.{Covers-from_all, has_enough}
+use Rattle.samoa_model.specs.Cells.{greatest_budget, need}
+use Rattle.samoa_run.specs.declared.words.Order.TheVariants.{Run}
+use Rattle.samoa_run.specs.Due.{can_do}
 use Rattle.samoa_run.specs.Built.{is_set, is_none, is_scripted, is_built_micro, is_built}
 
 set_is : (d : Decl) → is_set d ≡ true → IsSet d
@@ -72,3 +75,18 @@ built-covers script kinds range h stock =
     = ap (λ (n : ℕ). n * count_by (λ (micro : MicroDef). ghosts.eq micro.kind Prog) script.micros) one in
     let enough : wanted script Prog ≤ count_of kinds Prog = omega (arith, all, few, range.few_micros, stock) in
     Covers-from_all script kinds (enough_each script kinds enough script.micros micros)
+
+-- it can be run with cells that are enough for it
+pub can_run_in : (script : Script) (cells : ℕ) (calls : Bool) → is_built script ≡ true → need script ≤ cells → can_do (Run cells calls) script ≡ true
+can_run_in script cells calls built enough = rw (built, le-leb (need script) cells enough) refl
+
+budgets-most : (decls : List DeclDef) → All HasBudget decls → greatest_budget decls ≤ 256
+budgets-most [] all = omega arith
+budgets-most (d ∷ decls) all =
+    let here = (All-head HasBudget d decls all).1 in
+    let rest = budgets-most decls (All-tail HasBudget d decls all) in
+    omega arith
+
+-- no script needs more cells than this
+pub few_needed : (script : Script) → IsInRange script → need script ≤ 4112
+few_needed script range = let most = budgets-most script.decls range.budgets in omega arith

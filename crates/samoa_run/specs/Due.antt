@@ -1,6 +1,7 @@
 -- What is due for an order: what is to be written, and with which status.
-use Rattle.std.specs.Prelude.{◌≡◌, ℕ, ◌++◌, Bool, true, false, List, codes, decimal, Result, Ok, Err, if◌then◌else◌}
+use Rattle.std.specs.Prelude.{◌≡◌, ℕ, ◌++◌, Bool, true, false, ◌&&◌, List, nat_le, codes, decimal, Result, Ok, Err, if◌then◌else◌}
 use Rattle.samoa_model.specs.declared.script.Script.{Script}
+use Rattle.samoa_model.specs.Cells.{need}
 use Rattle.samoa_serial.specs.Report.{report}
 use Rattle.samoa_script.specs.declared.fault.ScriptFault.{ScriptFault}
 use Rattle.samoa_script.specs.declared.fault.ScriptFault.TheVariants.{TooLong, NotJson, Missing, WrongForm, Unknown, Twice, Over, Memory}
@@ -8,22 +9,41 @@ use Rattle.serde_json.specs.Written.{compact_text}
 use Rattle.samoa_print.specs.Canonical.{tree_of}
 use Rattle.samoa_run.specs.declared.words.Order.{Order}
 use Rattle.samoa_run.specs.declared.words.Order.TheVariants.{Run, Serial, Check}
+use Rattle.samoa_run.specs.declared.stop.Stop.{Stop}
+use Rattle.samoa_run.specs.declared.stop.Stop.TheVariants as stops
 use Rattle.samoa_run.specs.Built.{is_built}
 
 -- whether a script that is held can be treated as ordered by now
+abbrev pub can_run : Order → Script → Bool
+can_run (Run cells calls) script = is_built script
+can_run (Serial calls) script = is_built script
+can_run Check script = true
+
+-- whether the cells that are given are enough for it
+abbrev pub has_cells : Order → Script → Bool
+has_cells (Run cells calls) script = nat_le (need script) cells
+has_cells _ script = true
+
 abbrev pub can_do : Order → Script → Bool
-can_do (Run calls) script = is_built script
-can_do (Serial calls) script = is_built script
-can_do Check script = true
+can_do order script = can_run order script && has_cells order script
 
 -- what is written for a script
 abbrev pub output : Order → Script → List ℕ
-output (Run calls) script = report script calls
+output (Run cells calls) script = report script calls
 output (Serial calls) script = report script calls
 output Check script = compact_text (tree_of script) ++ codes "\n"
 
 abbrev pub not_yet_line : List ℕ
 not_yet_line = codes "! script NotYet\n"
+
+-- the cells that are given, and those that are needed
+abbrev pub few_cells : ℕ → ℕ → List ℕ
+few_cells cells needed = codes "! cells " ++ (decimal cells ++ (codes " " ++ (decimal needed ++ codes "\n")))
+
+-- what is written for a script that can't be treated as ordered
+abbrev pub turned_away_line : Order → Script → List ℕ
+turned_away_line (Run cells calls) script = if is_built script then few_cells cells (need script) else not_yet_line
+turned_away_line _ script = not_yet_line
 
 abbrev pub is_memory : ScriptFault → Bool
 is_memory Memory = true
@@ -49,5 +69,11 @@ due_status order (Ok script) = if can_do order script then 0 else 3
 due_status order (Err fault) = 3
 
 abbrev pub due_text : Order → Result Script ScriptFault → List ℕ
-due_text order (Ok script) = if can_do order script then output order script else not_yet_line
+due_text order (Ok script) = if can_do order script then output order script else turned_away_line order script
 due_text order (Err fault) = fault_line fault
+
+-- the status that what was written ends with
+abbrev pub ended_with : Result (Unit {0}) Stop → ℕ
+ended_with (Ok done) = 0
+ended_with (Err stops.Failed) = 5
+ended_with (Err stops.Memory) = 6

@@ -8,7 +8,7 @@ use Rattle.samoa_grammar.specs.Held.{Holds}
 use Rattle.samoa_script.specs.declared.fault.ScriptFault.{ScriptFault}
 use Rattle.samoa_run.specs.Readings.{IsFaultOf}
 use Rattle.samoa_run.specs.declared.words.Order.{Order}
-use Rattle.samoa_run.specs.Due.{can_do, output, not_yet_line, fault_line}
+use Rattle.samoa_run.specs.Due.{can_do, output, turned_away_line, fault_line}
 use Rattle.samoa_run.specs.declared.stop.Stop.{Stop}
 use Rattle.samoa_run.specs.declared.stop.Stop.TheVariants.{Failed}
 
@@ -25,10 +25,10 @@ pub record Answers (due : ℕ) (text : List ℕ) (old new : Option (List ℕ)) (
   pub source_failed : status ≡ 4 → Appends old new []
   pub no_other : (status ≡ due) ⊎ ((status ≡ 4) ⊎ ((status ≡ 5) ⊎ (status ≡ 6)))
 
--- an input that is refused: it has a fault, or what it holds can't be done yet
+-- an input that is refused: it has a fault, or what it holds can't be treated as ordered
 pub data IsRefused (order : Order) (input : List ℕ) : Type 0 where
   faulty : (fault : ScriptFault) → IsFaultOf input fault → IsRefused order input
-  not_yet : (script : Script) → Holds input script → can_do order script ≡ false → IsRefused order input
+  turned_away : (script : Script) → Holds input script → can_do order script ≡ false → IsRefused order input
 
 -- an end of the work: what source and sink tell before and after, and their counts of faults
 pub record Ends : Type 0 where
@@ -50,8 +50,8 @@ pub record NoFault (ends : Ends) : Type 0 where
 pub record Obeys (order : Order) (ends : Ends) (status : ℕ) : Type 0 where
   pub done : (input : List ℕ) (script : Script) → ends.left ≡ Some input → Holds input script → can_do order script ≡ true
       → Answers 0 (output order script) ends.written ends.written_after status
-  pub not_yet : (input : List ℕ) (script : Script) → ends.left ≡ Some input → Holds input script → can_do order script ≡ false
-      → Answers 3 not_yet_line ends.written ends.written_after status
+  pub turned_away : (input : List ℕ) (script : Script) → ends.left ≡ Some input → Holds input script → can_do order script ≡ false
+      → Answers 3 (turned_away_line order script) ends.written ends.written_after status
   pub refused : (input : List ℕ) (fault : ScriptFault) → ends.left ≡ Some input → IsFaultOf input fault
       → Answers 3 (fault_line fault) ends.written ends.written_after status
   pub refused_only : (input : List ℕ) → ends.left ≡ Some input → status ≡ 3 → IsRefused order input

@@ -4,20 +4,20 @@ ghost use Rattle.samoa_model.specs.Range.{IsInRange};
 ghost use Rattle.samoa_model.specs.declared.setup.Kind.TheVariants.{Prog};
 ghost use Rattle.samoa_ends.specs.Causes.{Rose};
 ghost use Rattle.samoa_micro.specs.Covers.{count_of};
-ghost use Rattle.samoa_run.specs.Due.{due_status, due_text, fault_line as line_of, not_yet_line, output};
+ghost use Rattle.samoa_core.specs.Known.{DeclaresKnown};
+ghost use Rattle.samoa_run.specs.Due.{due_status, due_text, ended_with, fault_line as line_of, few_cells, output};
 ghost use Rattle.samoa_run.specs.Serving.{Answers};
-ghost use Rattle.samoa_run.specs.Built.{is_built};
 
-use crate::fault::fault_line;
+use crate::fault::{cells_line, fault_line};
 use crate::ready::built;
 use crate::report::write_report;
 use crate::stop::Stop;
-use crate::words::Order;
+use crate::words::{CELLS, Order};
 use crate::writing::write_lines;
 use samoa_ends::{Failed, Sink};
 use samoa_micro::{Micro, Stock};
 use samoa_model::{NoMemory, Script};
-use samoa_print::print_script;
+use samoa_print::{need, print_script};
 use samoa_script::ScriptFault;
 use std::alloc::Global;
 
@@ -30,6 +30,7 @@ pub fn treat<K: Sink, B: Micro>(
     sink: &mut K,
 ) -> u8
     requires in_range { IsInRange script.now }
+    requires declares { DeclaresKnown script.now }
     requires stock { 32 ≤ count_of stock Prog }
     ensures written { Answers (due_status order (Ok script.now)) (due_text order (Ok script.now)) (K.written sink.old) (K.written sink.new) result }
     ensures statuses { (result ≡ due_status order (Ok script.now)) ⊎ (result ≡ 5) ⊎ (result ≡ 6) }
@@ -37,14 +38,39 @@ pub fn treat<K: Sink, B: Micro>(
 {
     match order {
         Order::Check => write_canonical(alloc, script, sink),
-        Order::Run { calls } | Order::Serial { calls } => {
-            report_built(alloc, script, stock, calls, sink)
-        }
+        Order::Run { cells, calls } => run_in_parts(alloc, script, stock, cells, calls, sink),
+        Order::Serial { calls } => run_one_by_one(alloc, script, stock, calls, sink),
     }
 }
 
-/// Writes the report of a script that can run by now.
-fn report_built<K: Sink, B: Micro>(
+/// Writes the report of a script that can run by now, with so many cells for what is open at once.
+fn run_in_parts<K: Sink, B: Micro>(
+    alloc: Global,
+    script: &Script,
+    stock: Stock<B>,
+    cells: u32,
+    calls: bool,
+    sink: &mut K,
+) -> u8
+    requires in_range { IsInRange script.now }
+    requires declares { DeclaresKnown script.now }
+    requires stock { 32 ≤ count_of stock Prog }
+    ensures written { Answers (due_status (Order.Run cells calls) (Ok script.now)) (due_text (Order.Run cells calls) (Ok script.now)) (K.written sink.old) (K.written sink.new) result }
+    ensures statuses { (result ≡ due_status (Order.Run cells calls) (Ok script.now)) ⊎ (result ≡ 5) ⊎ (result ≡ 6) }
+    ensures sink_failed { result ≡ 5 → Rose (K.faults sink.old) (K.faults sink.new) }
+{
+    if !built(script) {
+        return write_text(b"! script NotYet\n", 3, sink);
+    }
+    let needed = need(script);
+    if cells < needed {
+        return refuse_cells(alloc, cells, needed, sink);
+    }
+    status_of(write_report(alloc, script, stock, cells, false, calls, sink))
+}
+
+/// Writes the report of a script that can run by now, by one computation after another.
+fn run_one_by_one<K: Sink, B: Micro>(
     alloc: Global,
     script: &Script,
     stock: Stock<B>,
@@ -52,6 +78,7 @@ fn report_built<K: Sink, B: Micro>(
     sink: &mut K,
 ) -> u8
     requires in_range { IsInRange script.now }
+    requires declares { DeclaresKnown script.now }
     requires stock { 32 ≤ count_of stock Prog }
     ensures written { Answers (due_status (Order.Serial calls) (Ok script.now)) (due_text (Order.Serial calls) (Ok script.now)) (K.written sink.old) (K.written sink.new) result }
     ensures statuses { (result ≡ due_status (Order.Serial calls) (Ok script.now)) ⊎ (result ≡ 5) ⊎ (result ≡ 6) }
@@ -60,10 +87,29 @@ fn report_built<K: Sink, B: Micro>(
     if !built(script) {
         return write_text(b"! script NotYet\n", 3, sink);
     }
-    match write_report(alloc, script, stock, 65_536, true, calls, sink) {
+    status_of(write_report(alloc, script, stock, CELLS, true, calls, sink))
+}
+
+/// The status of what was written.
+fn status_of(written: Result<(), Stop>) -> u8
+    ensures { result ≡ ended_with written }
+{
+    match written {
         Ok(()) => 0,
         Err(Stop::Failed) => 5,
         Err(Stop::Memory) => 6,
+    }
+}
+
+/// Writes the line of cells that aren't enough, and answers the status.
+fn refuse_cells<K: Sink>(alloc: Global, cells: u32, needed: u32, sink: &mut K) -> u8
+    ensures written { Answers 3 (few_cells cells needed) (K.written sink.old) (K.written sink.new) result }
+    ensures statuses { (result ≡ 3) ⊎ (result ≡ 5) ⊎ (result ≡ 6) }
+    ensures sink_failed { result ≡ 5 → Rose (K.faults sink.old) (K.faults sink.new) }
+{
+    match cells_line(alloc, cells, needed) {
+        Ok(line) => write_text(&line, 3, sink),
+        Err(NoMemory) => 6,
     }
 }
 

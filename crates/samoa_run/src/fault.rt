@@ -1,6 +1,6 @@
 //! The lines of faults.
 ghost use Rattle.std.specs.Prelude.{◌≡◌, ◌++◌, codes, decimal, IfOk, OnOk};
-ghost use Rattle.samoa_run.specs.Due.{fault_line as line_of, fault_text};
+ghost use Rattle.samoa_run.specs.Due.{fault_line as line_of, fault_text, few_cells};
 
 use itoa::Buffer;
 use samoa_model::{Name, NoMemory};
@@ -14,6 +14,19 @@ pub fn fault_line(alloc: Global, fault: &ScriptFault) -> Result<Vec<u8>, NoMemor
     let mut line = Vec::new(alloc);
     push(b"! script ", &mut line)?;
     push_fault(fault, &mut line)?;
+    push(b"\n", &mut line)?;
+    Ok(line)
+}
+
+/// The line of cells that aren't enough for a script.
+pub fn cells_line(alloc: Global, cells: u32, needed: u32) -> Result<Vec<u8>, NoMemory>
+    ensures { IfOk result (λ line. line.items ≡ few_cells cells needed) }
+{
+    let mut line = Vec::new(alloc);
+    push(b"! cells ", &mut line)?;
+    push(Buffer::new().format(cells).as_bytes(), &mut line)?;
+    push(b" ", &mut line)?;
+    push(Buffer::new().format(needed).as_bytes(), &mut line)?;
     push(b"\n", &mut line)?;
     Ok(line)
 }

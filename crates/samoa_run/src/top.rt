@@ -3,6 +3,7 @@ ghost use Rattle.std.specs.Prelude.{◌≡◌, ◌≢◌, ◌⊎◌, ◌<◌, �
 ghost use Rattle.std.specs.Io.KnownBytes.{IsAtEnd};
 ghost use Rattle.samoa_model.specs.declared.script.Script.{Script as ScriptValue};
 ghost use Rattle.samoa_model.specs.declared.setup.Kind.TheVariants.{Prog};
+ghost use Rattle.samoa_model.specs.Cells.{need};
 ghost use Rattle.samoa_serial.specs.Report.{report};
 ghost use Rattle.samoa_ends.specs.Causes.{Rose};
 ghost use Rattle.samoa_grammar.specs.Held.{Holds};
@@ -27,17 +28,19 @@ use std::thread::Threads;
 ///
 /// | Words | What is done |
 /// |---|---|
-/// | `run [--calls]` | reads a script, runs it, and writes its report, with the lines of calls where asked |
-/// | `serial [--calls]` | the same, one computation after another on one thread |
+/// | `run [--cells n] [--calls]` | reads a script, runs it, and writes its report, with the lines of calls where asked |
+/// | `serial [--calls]` | the same, one computation after another |
 /// | `check` | reads a script, and writes its canonical text and a line feed |
 ///
-/// The source is read to its end, or to one byte past 1,048,576.
+/// The source is read to its end, or to one byte past 1,048,576. A run has as many computations open at once as its cells
+/// are enough for (1 to 1,048,576, and 65,536 where none are given): 16 for each unit of a budget, and 16 more. The number
+/// of cells changes no byte of the report.
 ///
 /// | Status | Comes | What is written |
 /// |---|---|---|
 /// | 0 | all was done and written | the report, or the text |
 /// | 2 | the words are others | `! usage` |
-/// | 3 | the input has a fault, or can't run yet | the fault line |
+/// | 3 | the input has a fault, or can't run yet, or the cells are too few for it | the fault line |
 /// | 4 | a read failed | nothing |
 /// | 5 | a write failed | a prefix of what was to be written |
 /// | 6 | there was no memory | a prefix of what was to be written |
@@ -54,10 +57,10 @@ pub fn serve<R: Wait + Threads + Sync, S: Source, K: Sink, G: Gate + Sync, B: Mi
 ) -> u8
     requires { 32 ≤ count_of stock Prog }
 
-    // The headline: the words ask for a run, and the input holds a script that can run. What is written is a prefix of
-    // the report of running its events whole, one after another, and at status 0 all of it.
-    ensures report { (input : List ℕ) (script : ScriptValue) (calls : Bool) → order_of (map string_bytes words.now) ≡ Some (OrderValue.Run calls)
-        → S.left source.old ≡ Some input → Holds input script → is_built script ≡ true
+    // The headline: the words ask for a run, the input holds a script that can run, and the cells are enough for it. What
+    // is written is a prefix of the report of running its events whole, one after another, and at status 0 all of it.
+    ensures report { (input : List ℕ) (script : ScriptValue) (cells : ℕ) (calls : Bool) → order_of (map string_bytes words.now) ≡ Some (OrderValue.Run cells calls)
+        → S.left source.old ≡ Some input → Holds input script → is_built script ≡ true → need script ≤ cells
         → Answers 0 (report script calls) (K.written sink.old) (K.written sink.new) result }
 
     // The words give an order, and it is carried out.
@@ -74,7 +77,9 @@ pub fn serve<R: Wait + Threads + Sync, S: Source, K: Sink, G: Gate + Sync, B: Mi
     ensures sink_failed { result ≡ 5 → Rose (K.faults sink.old) (K.faults sink.new) }
 {
     match order_in(words) {
-        Some(Order::Run { calls }) => { obey(alloc, Order::Run { calls }, source, sink, stock) }
+        Some(Order::Run { cells, calls }) => {
+            obey(alloc, Order::Run { cells, calls }, source, sink, stock)
+        }
         Some(Order::Serial { .. }) => serve_serial(alloc, words, source, sink, stock),
         Some(Order::Check) => check_only(alloc, words, source, sink, stock),
         None => write_text(b"! usage\n", 2, sink),

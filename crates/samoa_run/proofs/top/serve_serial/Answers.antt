@@ -1,4 +1,4 @@
-use Rattle.std.proofs.Common.{◌≡◌, ◌∙◌, Some, sym, subst}
+use Rattle.std.proofs.Common.{◌≡◌, ◌∙◌, ◌&&◌, true, ap, Some, subst}
 use Rattle.std.specs.declared.option.Option.{Option}
 use Rattle.samoa_run.specs.declared.words.Order.{Order}
 use Rattle.samoa_run.specs.declared.words.Order.TheVariants.{Serial}
@@ -12,4 +12,4 @@ returns-in-Some-Serial-clause-report g c =
     let given : Some (Serial c.in-Some-Serial.calls) ≡ Some (Serial calls) = cc in
     let same : Serial c.in-Some-Serial.calls ≡ Serial calls = cc in
     let P : Order → Type 0 = λ order. Answers 0 (output order script) (g.K.Sink.written c.args.sink.now) (g.K.Sink.written c.obey.new.sink) c.obey.result in
-    subst P same (c.obey.ensures.done input script left held ready)
+    subst P same (c.obey.ensures.done input script left held (ap (λ b. b && true) ready))

@@ -1,7 +1,8 @@
-use Rattle.std.proofs.Common.{◌≡◌, ◌∙◌, sym, true}
+use Rattle.std.proofs.Common.{◌≡◌, ◌≤◌, true, arith}
+use Rattle.samoa_model.specs.Cells.{need}
 use Rattle.samoa_run.specs.Built.{is_built}
-use Rattle.samoa_run.proofs.Runnable.{built-is, built-covers}
-use Rattle.samoa_run.proofs.answer.report_built.Goals as goal
+use Rattle.samoa_run.proofs.Runnable.{built-is, built-covers, few_needed}
+use Rattle.samoa_run.proofs.answer.run_one_by_one.Goals as goal
 
 pub write_report-requires-clause-built : goal.write_report-requires-clause-built
 write_report-requires-clause-built g c =
@@ -11,3 +12,6 @@ pub write_report-requires-clause-covers : goal.write_report-requires-clause-cove
 write_report-requires-clause-covers g c =
     let passes : is_built c.args.script.now ≡ true = cc in
     built-covers c.args.script.now c.args.stock c.requires.in_range passes c.requires.stock
+
+pub write_report-requires-clause-cells : goal.write_report-requires-clause-cells
+write_report-requires-clause-cells g c = omega (arith, few_needed c.args.script.now c.requires.in_range)
