@@ -1,4 +1,4 @@
-use Rattle.std.proofs.Common.{◌≡◌, ◌+◌, ◌++◌, ◌∷◌, [], List, arith, map, subst, sym, take}
+use Rattle.std.proofs.Common.{◌∷◌, [], List, arith, map, subst, sym, take}
 use Rattle.samoa_model.specs.declared.record.Ext.{Ext}
 use Rattle.samoa_serial.specs.History.{ext_of}
 use Rattle.samoa_run.specs.Running.{HasOpened}

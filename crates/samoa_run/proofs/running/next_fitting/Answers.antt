@@ -1,5 +1,4 @@
-use Rattle.std.proofs.Common.{◌≡◌, ◌<◌, ◌∙◌, length, arith, sym, Bool, true, false}
-use Rattle.std.specs.Bool.{IsTrue}
+use Rattle.std.proofs.Common.{◌≡◌, ◌<◌, length, arith, Bool, true, false}
 use Rattle.samoa_model.specs.Range.{IsExtOf}
 use Rattle.samoa_run.proofs.Opened.{item_there, item_named, one_fits}
 use Rattle.samoa_run.proofs.running.next_fitting.Goals as goal
