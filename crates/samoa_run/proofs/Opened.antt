@@ -14,7 +14,7 @@ use Rattle.samoa_model.specs.Cells.{cells_of, greatest_budget, need}
 use Rattle.samoa_model.specs.Scripts.{decl_of, no_decl}
 use Rattle.samoa_serial.specs.History.{ext_of}
 use Rattle.samoa_invariant.specs.State as model
-use Rattle.samoa_invariant.specs.Runs.{IsRun, Trace, ext_at, play, state, with_ext}
+use Rattle.samoa_invariant.specs.Runs.{IsRun, Trace, ext_at, no_ext, play, state, with_ext}
 use Rattle.samoa_invariant.proofs.Traces.{is_run-with_ext, state-ext, state-step}
 use Rattle.samoa_core.specs.Admission.{admitted}
 use Rattle.samoa_core.specs.Since.{cleared_comps}
@@ -67,6 +67,22 @@ pub one_fits : (script : Script) (ext : Ext) (held cells : ℕ) → held ≡ 0 �
 one_fits script ext held cells none room =
     let most : (decl_of script ext).budget ≤ greatest_budget script.decls = budget_within script.decls _ in omega (arith, most)
 
+-- so it has room for the first of these
+pub first_fits : (t u : Trace) (ext : Ext) → (state u).cells ≡ 0 → HasOpened t [] u → need t.script ≤ t.cells → (state u).cells + cells_of u.script ext ≤ u.cells
+first_fits t u ext none opened room =
+    let R : Script → Type 0 = λ script. need script ≤ u.cells in
+    one_fits u.script ext (state u).cells u.cells none (subst R (sym opened.script) (let as_wide = opened.cells in omega (arith, room, as_wide)))
+
+-- so one was admitted where no more have room
+pub some_opened : (t u : Trace) (exts : List Ext) (count most : ℕ) → 0 < most → most ≤ length exts → need t.script ≤ t.cells → HasOpened t (take count exts) u → (count ≡ 0 → (state u).cells ≡ 0)
+    → ((ext : Ext) → count < most → slice_get exts count ≡ Some ext → u.cells < (state u).cells + cells_of u.script ext) → 0 < count
+some_opened t u exts zero most some within room opened none_held wide =
+    let first : Ext = ext_at exts 0 in
+    let too_wide = wide first some (slice_get-get_or exts 0 no_ext (omega (arith, some, within))) in
+    let fits = first_fits t u first (none_held refl) opened room in
+    absurd (omega (arith, too_wide, fits))
+some_opened t u exts (suc n) most some within room opened none_held wide = omega arith
+
 -- an item as an admission
 pub item_there : (items : List DoDef) (i : ℕ) (item : DoDef) (ext : Ext) → i < length items → item ≡ get_or items i item → ext ≡ ext_of item → slice_get (map ext_of items) i ≡ Some ext
 item_there items i item ext within is e =
@@ -78,3 +94,6 @@ pub item_named : (P : Ext → Type 0) (items : List DoDef) (i : ℕ) (item : DoD
 item_named P items i item ext within is e all =
     let as_many : i < length (map ext_of items) = omega (arith, length-map items ext_of) in
     subst P (get_or-map ext_of items i item ext within ∙ (ap ext_of (sym is) ∙ sym e)) (All-get_or P (map ext_of items) i ext as_many all)
+
+pub some_same : (x y : Ext) → Some x ≡ Some y → x ≡ y
+some_same x y e = cc

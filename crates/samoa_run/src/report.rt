@@ -1,5 +1,5 @@
 //! The run of a script, and its report.
-ghost use Rattle.std.specs.Prelude.{◌≡◌, ◌<◌, ◌≤◌, ◌+◌, ◌++◌, [], length, map, take, All, IfOk, OnOk, OnErr};
+ghost use Rattle.std.specs.Prelude.{◌≡◌, ◌<◌, ◌≤◌, ◌+◌, ◌++◌, [], length, map, take, All, IfOk, OnOk, OnErr, if◌then◌else◌};
 ghost use Rattle.std.specs.Io.KnownBytes.{Appends};
 ghost use Rattle.samoa_model.specs.Cells.{need};
 ghost use Rattle.samoa_model.specs.Range.{IsInRange, IsBuilt, IsExtOf};
@@ -70,6 +70,7 @@ impl<B: Micro> Run<B> {
         requires { 0 < items }
         ensures some { 0 < result }
         ensures within { result ≤ items }
+        ensures most { result ≡ (if self.now.one_by_one then 1 else items) }
     {
         if self.one_by_one { 1 } else { items }
     }

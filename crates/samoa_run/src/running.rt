@@ -1,5 +1,6 @@
 //! A part of a tick: what is admitted together is run to its end.
 ghost use Rattle.std.specs.Prelude.{◌≡◌, ◌+◌, ◌<◌, ◌≤◌, ◌∷◌, [], length, map, take, slice_get, Some, All, IfOk, IfSome, IfNone, OnOk};
+ghost use Rattle.samoa_model.specs.declared.record.Ext.{Ext};
 ghost use Rattle.samoa_model.specs.Cells.{cells_of, need};
 ghost use Rattle.samoa_model.specs.Range.{IsExtOf};
 ghost use Rattle.samoa_serial.specs.History.{ext_of as as_ext};
@@ -33,6 +34,8 @@ pub fn admit_part<B: Micro>(
     ensures most { IfOk result (λ count. count ≤ most) }
     ensures opened { IfOk result (λ count. HasOpened core.old (take count (map as_ext items.now)) core.new) }
     ensures held { OnOk result (0 < (state core.new).cells) }
+    ensures longest { IfOk result (λ count. (ext : Ext) → count < most → slice_get (map as_ext items.now) count ≡ Some ext
+        → core.new.cells < (state core.new).cells + cells_of core.new.script ext) }
 {
     let mut count = 0;
     while let Some(ext) = next_fitting(core, items, count, most) {
@@ -51,7 +54,8 @@ fn next_fitting<B: Micro>(core: &Core<B>, items: &[DoDef], at: usize, most: usiz
     ensures item { IfSome result (λ ext. slice_get (map as_ext items.now) at ≡ Some ext) }
     ensures named { IfSome result (λ ext. IsExtOf core.now.script ext) }
     ensures fits { IfSome result (λ ext. (state core.now).cells + cells_of core.now.script ext ≤ core.now.cells) }
-    ensures last { IfNone result ((state core.now).cells ≡ 0 → need core.now.script ≤ core.now.cells → at ≡ most) }
+    ensures none { IfNone result ((ext : Ext) → at < most → slice_get (map as_ext items.now) at ≡ Some ext
+        → core.now.cells < (state core.now).cells + cells_of core.now.script ext) }
 {
     if at == most {
         return None;

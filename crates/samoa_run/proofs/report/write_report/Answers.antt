@@ -1,4 +1,3 @@
-use Rattle.std.proofs.Common.{◌≡◌}
 use Rattle.std.proofs.lemmas.Result.{on_ok_weaker, on_err_weaker}
 use Rattle.samoa_run.proofs.Closing.{report_begun, report_in_part, report_written}
 use Rattle.samoa_run.proofs.Parts.{on_err}

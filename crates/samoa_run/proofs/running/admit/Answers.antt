@@ -1,4 +1,3 @@
-use Rattle.std.proofs.Common.{◌≡◌}
 use Rattle.samoa_run.proofs.Opened.{opened_one, opened_holds}
 use Rattle.samoa_run.proofs.running.admit.Goals as goal
 

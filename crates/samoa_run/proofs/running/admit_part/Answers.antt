@@ -1,9 +1,10 @@
-use Rattle.std.proofs.Common.{◌≡◌, ◌+◌, ◌++◌, ◌∷◌, [], List, arith, map, subst, sym, take}
+use Rattle.std.proofs.Common.{◌∷◌, [], ◌<◌, ◌≤◌, List, arith, length, map, subst, sym, take}
+use Rattle.std.proofs.lemmas.List.{length-map}
 use Rattle.samoa_model.specs.declared.record.Ext.{Ext}
 use Rattle.samoa_serial.specs.History.{ext_of}
 use Rattle.samoa_run.specs.Running.{HasOpened}
 use Rattle.samoa_run.proofs.EntrySteps.{take_one_more}
-use Rattle.samoa_run.proofs.Opened.{opened_more}
+use Rattle.samoa_run.proofs.Opened.{opened_more, some_opened}
 use Rattle.samoa_run.proofs.running.admit_part.Goals as goal
 
 pub loop-ext-preserved : goal.loop-ext-preserved
@@ -17,3 +18,15 @@ loop-ext-preserved g c =
       none_held = λ none. absurd (omega (arith, none));
       held = λ some. c.in_ok-admit.ensures.held;
     }
+
+pub returns-clause-some : goal.returns-clause-some
+returns-clause-some g c =
+    let exts : List Ext = map ext_of c.args.items.now in
+    let within : c.args.most ≤ length exts = omega (arith, c.requires.within, length-map c.args.items.now ext_of) in
+    some_opened c.args.core.now c.loop-ext.core exts c.loop-ext.count c.args.most c.requires.some within c.requires.room c.loop-ext.invariant.opened c.loop-ext.invariant.none_held c.in_default.ensures.none
+
+pub returns-clause-held : goal.returns-clause-held
+returns-clause-held g c =
+    let exts : List Ext = map ext_of c.args.items.now in
+    let within : c.args.most ≤ length exts = omega (arith, c.requires.within, length-map c.args.items.now ext_of) in
+    c.loop-ext.invariant.held (some_opened c.args.core.now c.loop-ext.core exts c.loop-ext.count c.args.most c.requires.some within c.requires.room c.loop-ext.invariant.opened c.loop-ext.invariant.none_held c.in_default.ensures.none)

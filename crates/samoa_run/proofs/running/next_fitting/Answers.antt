@@ -1,7 +1,9 @@
-use Rattle.std.proofs.Common.{◌≡◌, ◌<◌, ◌∙◌, length, arith, sym, Bool, true, false}
-use Rattle.std.specs.Bool.{IsTrue}
+use Rattle.std.proofs.Common.{◌≡◌, ◌+◌, ◌<◌, ◌≤◌, length, map, arith, ap, sym, ◌∙◌, ℕ, Bool, true, false, Option, Some}
+use Rattle.samoa_model.specs.Cells.{cells_of}
+use Rattle.samoa_model.specs.declared.record.Ext.{Ext}
 use Rattle.samoa_model.specs.Range.{IsExtOf}
-use Rattle.samoa_run.proofs.Opened.{item_there, item_named, one_fits}
+use Rattle.samoa_invariant.specs.Runs.{state}
+use Rattle.samoa_run.proofs.Opened.{item_there, item_named, some_same}
 use Rattle.samoa_run.proofs.running.next_fitting.Goals as goal
 
 pub fits-requires : goal.fits-requires
@@ -19,9 +21,19 @@ returns-then-fits-clause-named g c =
     let within : c.args.at < length c.args.items.now = omega (arith, c.requires.at, c.requires.within, c.if-at-most.false) in
     item_named (IsExtOf c.args.core.now.script) c.args.items.now c.args.at c.index-items-at.result c.ext_of-ext.result within c.index-items-at.is c.ext_of-ext.ensures c.requires.named
 
-no_no : (b : Bool) → b ≡ true → b ≡ false → ⊥
-no_no b e f = cc
+-- what isn't at most a number is above it
+above : (held cells : ℕ) (b : Bool) → b ≡ false → (held ≤ cells → b ≡ true) → cells < held
+above held cells b e fits = omega (arith, λ (le : held ≤ cells). clash b (fits le) e)
+  where
+    clash : (b : Bool) → b ≡ true → b ≡ false → ⊥
+    clash b e f = cc
 
-pub returns-else-fits-clause-last : goal.returns-else-fits-clause-last
-returns-else-fits-clause-last g c none room =
-    absurd (no_no c.fits.result (c.fits.ensures.1 (one_fits c.args.core.now.script c.ext_of-ext.result _ _ none room)) c.if-fits.false)
+pub returns-else-fits-clause-none : goal.returns-else-fits-clause-none
+returns-else-fits-clause-none g c ext more there =
+    let within : c.args.at < length c.args.items.now = omega (arith, c.requires.at, c.requires.within, c.if-at-most.false) in
+    let own = item_there c.args.items.now c.args.at c.index-items-at.result c.ext_of-ext.result within c.index-items-at.is c.ext_of-ext.ensures in
+    let same : c.ext_of-ext.result ≡ ext = some_same c.ext_of-ext.result ext (sym own ∙ there) in
+    let wide : c.args.core.now.cells < (state c.args.core.now).cells + cells_of c.args.core.now.script c.ext_of-ext.result
+    = above ((state c.args.core.now).cells + cells_of c.args.core.now.script c.ext_of-ext.result) c.args.core.now.cells c.fits.result c.if-fits.false c.fits.ensures.1 in
+    let cells = ap (λ (x : Ext). cells_of c.args.core.now.script x) same in
+    omega (arith, wide, cells)

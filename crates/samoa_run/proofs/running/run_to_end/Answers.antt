@@ -1,5 +1,3 @@
-use Rattle.std.proofs.Common.{◌≡◌}
-use Rattle.samoa_invariant.specs.Runs.{Trace}
 use Rattle.samoa_core.specs.Scans.{IsLater}
 use Rattle.samoa_core.proofs.Later.{later-trans}
 use Rattle.samoa_run.proofs.Kept.{cleared-later, held-later}

@@ -1,4 +1,4 @@
-use Rattle.std.proofs.Common.{◌≡◌, ◌+◌, ◌<◌, ◌++◌, ◌∙◌, List, ap, append_assoc, arith, count_by, length, sym, take}
+use Rattle.std.proofs.Common.{◌+◌, ◌++◌, ◌∙◌, List, ap, append_assoc, arith, count_by, sym, take}
 use Rattle.samoa_model.specs.declared.record.Entry.{Entry}
 use Rattle.samoa_serial.specs.Lines.{entry_text}
 use Rattle.samoa_serial.specs.Report.{entries_text, is_delivery, is_refusal}

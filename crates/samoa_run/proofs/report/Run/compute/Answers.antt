@@ -1,5 +1,4 @@
-use Rattle.std.proofs.Common.{◌≡◌}
-use Rattle.samoa_run.proofs.RunOnce.{HasEnded, has_ended, has_run_more}
+use Rattle.samoa_run.proofs.RunOnce.{has_ended, has_run_more}
 use Rattle.samoa_run.proofs.report.Run.compute.Goals as goal
 
 pub returns-clause-has_run : goal.returns-clause-has_run

@@ -1,4 +1,4 @@
-use Rattle.std.proofs.Common.{◌≡◌, ◌∙◌, List, ap, arith, drop, map, subst, sym}
+use Rattle.std.proofs.Common.{◌∙◌, List, ap, arith, map, subst, sym}
 use Rattle.std.proofs.lemmas.List.{drop-map}
 use Rattle.std.proofs.lemmas.List.Elements.{All-drop}
 use Rattle.std.specs.List.{All}
