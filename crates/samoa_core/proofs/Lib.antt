@@ -16,3 +16,4 @@ pub mod Admitted
 pub mod Answered
 pub mod Later
 pub mod Ended
+pub mod Declares
