@@ -1,5 +1,5 @@
 -- The last part of the report.
-use Rattle.std.proofs.Common.{◌≡◌, ℕ, Bool, ◌++◌, List, [], length, false, sym, ap, ◌∙◌, subst, append_assoc}
+use Rattle.std.proofs.Common.{◌≡◌, ℕ, Bool, ◌++◌, List, [], length, sym, ap, ◌∙◌, subst, append_assoc}
 use Rattle.std.specs.declared.option.Option.{Option}
 use Rattle.std.specs.Io.KnownBytes.{Appends}
 use Rattle.std.proofs.KnownBytes.{Appends-trans}
@@ -9,7 +9,7 @@ use Rattle.samoa_serial.specs.World.{States}
 use Rattle.samoa_serial.specs.SerialRun.{serial}
 use Rattle.samoa_serial.specs.History.{history}
 use Rattle.samoa_serial.specs.Lines.{total_text}
-use Rattle.samoa_serial.specs.Report.{comps_text, states_text, is_delivery, is_refusal, entries_of_sort, report, report_of}
+use Rattle.samoa_serial.specs.Report.{comps_text, states_text, is_delivery, is_refusal, entries_of_sort, report}
 use Rattle.samoa_serial.proofs.ReportLaws.{report_of-parts}
 use Rattle.samoa_invariant.specs.Runs.{Trace}
 use Rattle.samoa_ends.specs.Pieces.{AppendsPrefix}

@@ -1,5 +1,5 @@
 -- What a script admits, tick by tick, and what is written of it.
-use Rattle.std.proofs.Common.{◌≡◌, ℕ, Bool, zero, suc, ◌+◌, ◌-◌, ◌<◌, ◌≤◌, List, [], ◌∷◌, ◌++◌, length, map, filter, refl, sym, ap, ◌∙◌, subst, arith, append_assoc, append-nil, add-zero, length-append}
+use Rattle.std.proofs.Common.{◌≡◌, ℕ, Bool, zero, suc, ◌+◌, ◌-◌, ◌<◌, ◌≤◌, List, [], ◌++◌, length, map, sym, ap, ◌∙◌, subst, arith, append_assoc, append-nil, add-zero, length-append}
 use Rattle.std.proofs.lemmas.List.{length-map}
 use Rattle.std.proofs.lemmas.List.Sums.{length-filter, count_by-le-length}
 use Rattle.std.specs.List.{All}
@@ -19,7 +19,7 @@ use Rattle.samoa_run.specs.declared.totals.Totals.{Totals}
 use Rattle.samoa_run.specs.Running.{HasRun, later_text}
 use Rattle.samoa_run.specs.Schedule.{of_tick}
 use Rattle.samoa_run.proofs.LaterText.{later_text-append}
-use Rattle.samoa_run.proofs.Parts.{part_after, part_more, part_start}
+use Rattle.samoa_run.proofs.Parts.{part_after, part_more}
 
 -- no item comes before the first tick
 pub items_late : (script : Script) → IsInRange script → All (λ (item : DoDef). 1 ≤ item.tick) script.does

@@ -1,4 +1,4 @@
-use Rattle.std.proofs.Common.{◌∷◌, [], ◌<◌, ◌≤◌, List, arith, length, map, subst, sym, take}
+use Rattle.std.proofs.Common.{◌∷◌, [], ◌≤◌, List, arith, length, map, subst, sym, take}
 use Rattle.std.proofs.lemmas.List.{length-map}
 use Rattle.samoa_model.specs.declared.record.Ext.{Ext}
 use Rattle.samoa_serial.specs.History.{ext_of}

@@ -1,4 +1,4 @@
-use Rattle.std.proofs.Common.{◌≡◌, ◌+◌, ◌<◌, ◌≤◌, length, map, arith, ap, sym, ◌∙◌, ℕ, Bool, true, false, Option, Some}
+use Rattle.std.proofs.Common.{◌≡◌, ◌+◌, ◌<◌, ◌≤◌, length, arith, ap, sym, ◌∙◌, ℕ, Bool, true, false}
 use Rattle.samoa_model.specs.Cells.{cells_of}
 use Rattle.samoa_model.specs.declared.record.Ext.{Ext}
 use Rattle.samoa_model.specs.Range.{IsExtOf}
