@@ -34,6 +34,7 @@ use Rattle.samoa_core.specs.Known.{decl_number}
 use Rattle.samoa_core.specs.Room.{spare_of, spare_when, to_come}
 use Rattle.samoa_core.specs.Scans.{IsStill}
 use Rattle.samoa_core.specs.Admission.{admitted}
+use Rattle.samoa_core.specs.Since.{cleared_comps}
 use Rattle.samoa_core.specs.Slots.{Grid, Row}
 use Rattle.samoa_core.specs.Kept.{Fields, Holds, Kept, held_of, trace_of}
 use Rattle.samoa_core.proofs.Facts.{few}
@@ -335,3 +336,7 @@ still-admitted t ext run =
     let same : state (with_step t1 step) ≡ model.admit (play t1) (state t) =
     state-step t1 step (is_run-with_ext t ext run) ∙ ap (λ (c : model.Core). model.admit (play t1) c) (state-ext t ext run) in
     record { out = λ v p. ap (λ (c : model.Core). c.out v p) same; stopped = ap (λ (c : model.Core). c.stopped) same }
+
+-- nor does it clear anything away
+pub cleared-admitted : (t : Trace) (ext : Ext) → IsRun t → cleared_comps (admitted t ext) ≡ cleared_comps t
+cleared-admitted t ext run = cleared-step (with_ext t ext) (Step.Admit (length t.exts + 1)) (is_run-with_ext t ext run) ∙ cleared-ext t ext

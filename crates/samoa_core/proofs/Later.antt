@@ -1,7 +1,9 @@
 -- The scans only add to the journal.
 use Rattle.std.proofs.Common.{◌≡◌, ℕ, zero, suc, ◌-◌, refl, sym, ap, ◌∙◌, List, [], ◌∷◌, ◌++◌, length, append_assoc, append-nil, Bool, true, false, if◌then◌else◌}
 use Rattle.samoa_model.specs.declared.record.Step.{Step}
-use Rattle.samoa_invariant.specs.Runs.{Trace, play, state, with_step}
+use Rattle.samoa_core.specs.Since.{cleared_comps}
+use Rattle.samoa_core.proofs.Since.{cleared-more}
+use Rattle.samoa_invariant.specs.Runs.{IsRun, Trace, play, state, with_step}
 use Rattle.samoa_core.specs.Scans.{IsLater, ends, finished, may_end, may_release, released, releases, releases_of, settled, with_journal}
 
 goes_on : (b : Bool) (xs : List Step) (step : Step) → (later : List Step) × ((if b then xs ++ step ∷ [] else xs) ≡ xs ++ later)
@@ -39,23 +41,29 @@ later-trans t u w a b =
       clears = b.clears ∙ a.clears;
       steps = j.0;
       journal = j.1;
+      cleared = b.cleared ∙ a.cleared;
     }
 
-pub later-step : (t : Trace) (step : Step) → IsLater t (with_step t step)
-later-step t step = record { script = refl; cells = refl; exts = refl; clears = refl; steps = step ∷ []; journal = refl }
+-- a journal that goes on
+later-more : (t : Trace) (journal more : List Step) → IsRun t → journal ≡ t.journal ++ more → IsLater t (with_journal t journal)
+later-more t journal more run e = record {
+  script = refl;
+  cells = refl;
+  exts = refl;
+  clears = refl;
+  steps = more;
+  journal = e;
+  cleared = ap (λ (xs : List Step). cleared_comps (with_journal t xs)) e ∙ cleared-more t more run;
+}
 
-pub later-same : (t : Trace) → IsLater t t
-later-same t = record { script = refl; cells = refl; exts = refl; clears = refl; steps = []; journal = sym (append-nil t.journal) }
+pub later-step : (t : Trace) (step : Step) → IsRun t → IsLater t (with_step t step)
+later-step t step run = later-more t (t.journal ++ step ∷ []) (step ∷ []) run refl
 
-pub later-released : (t : Trace) → IsLater t (released t)
-later-released t =
-    let j = releases_go_on t (length t.exts) in
-    record { script = refl; cells = refl; exts = refl; clears = refl; steps = j.0; journal = j.1 }
+pub later-released : (t : Trace) → IsRun t → IsLater t (released t)
+later-released t run = let j = releases_go_on t (length t.exts) in later-more t (releases t (length t.exts)) j.0 run j.1
 
-pub later-finished : (t : Trace) → IsLater t (finished t)
-later-finished t =
-    let j = ends_go_on t (length t.exts) in
-    record { script = refl; cells = refl; exts = refl; clears = refl; steps = j.0; journal = j.1 }
+pub later-finished : (t : Trace) → IsRun t → IsLater t (finished t)
+later-finished t run = let j = ends_go_on t (length t.exts) in later-more t (ends t (length t.exts)) j.0 run j.1
 
-pub later-settled : (t : Trace) → IsLater t (settled t)
-later-settled t = later-trans t (released t) (settled t) (later-released t) (later-finished (released t))
+pub later-settled : (t : Trace) → IsRun t → IsRun (released t) → IsLater t (settled t)
+later-settled t run later = later-trans t (released t) (settled t) (later-released t run) (later-finished (released t) later)

@@ -29,6 +29,11 @@ unfolding cleared_comps
 cleared-step t step run =
     ap admissions (take-append-le (last_of 0 t.clears) t.journal (step ∷ []) (last-most 0 0 t.clears (length t.journal) run.clears (omega arith)))
 
+pub cleared-more : (t : Trace) (more : List Step) → IsRun t → cleared_comps (record t { journal = t.journal ++ more }) ≡ cleared_comps t
+unfolding cleared_comps
+cleared-more t more run =
+    ap admissions (take-append-le (last_of 0 t.clears) t.journal more (last-most 0 0 t.clears (length t.journal) run.clears (omega arith)))
+
 last-append : (before : ℕ) (clears : List ℕ) (clear : ℕ) → last_of before (clears ++ clear ∷ []) ≡ clear
 last-append before [] clear = refl
 last-append before (c ∷ cs) clear = last-append c cs clear

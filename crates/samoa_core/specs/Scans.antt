@@ -8,6 +8,7 @@ use Rattle.samoa_serial.specs.Calls.{Computation}
 use Rattle.samoa_invariant.specs.Play.{Play}
 use Rattle.samoa_invariant.specs.State as model
 use Rattle.samoa_invariant.specs.Runs.{Trace, play, state}
+use Rattle.samoa_core.specs.Since.{cleared_comps}
 
 abbrev pub with_journal : Trace → List Step → Trace
 with_journal t steps = record t { journal = steps }
@@ -85,7 +86,7 @@ abbrev pub ended_to : model.Core → ℕ → Bool
 ended_to core zero = true
 ended_to core (suc n) = ended_to core n && core.ended n
 
--- the same script, cells, admissions and clears, and the journal goes on
+-- the same script, cells, admissions and clears, and the journal goes on. As many are cleared away as before
 pub record IsLater (t u : Trace) : Type 0 where
   pub script : u.script ≡ t.script
   pub cells : u.cells ≡ t.cells
@@ -93,3 +94,4 @@ pub record IsLater (t u : Trace) : Type 0 where
   pub clears : u.clears ≡ t.clears
   pub steps : List Step
   pub journal : u.journal ≡ t.journal ++ steps
+  pub cleared : cleared_comps u ≡ cleared_comps t

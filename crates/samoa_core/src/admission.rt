@@ -11,6 +11,7 @@ ghost use Rattle.samoa_invariant.specs.State.{named};
 ghost use Rattle.samoa_invariant.specs.Runs.{Trace, play, state};
 ghost use Rattle.samoa_core.specs.Admission.{admitted, raised, started, steps_of as steps_to_come, taken_versions, version_after};
 ghost use Rattle.samoa_core.specs.Scans.{IsStill};
+ghost use Rattle.samoa_core.specs.Since.{cleared_comps};
 
 use crate::cells::weight;
 use crate::kernel::Core;
@@ -32,6 +33,7 @@ impl<B: Micro> Core<B> {
         ensures number { IfOk result (λ comp. comp ≡ length self.old.exts + 1) }
         ensures step { OnOk result (self.new ≡ admitted self.old ext) }
         ensures still { OnOk result (IsStill (state self.old) self.new) }
+        ensures cleared { cleared_comps self.new ≡ cleared_comps self.old }
         ensures back { IfErr result (λ e. e.0 ≡ ext) }
         ensures err { OnErr result (self.new ≡ self.old) }
     {

@@ -6,6 +6,7 @@ ghost use Rattle.samoa_model.specs.declared.handler.Moment.{Moment};
 ghost use Rattle.samoa_serial.specs.Kinds.{after_step, outcome_of};
 ghost use Rattle.samoa_invariant.specs.State as model;
 ghost use Rattle.samoa_invariant.specs.Runs.{IsDue, Trace, play, state, with_step};
+ghost use Rattle.samoa_core.specs.Scans.{IsLater};
 ghost use Rattle.samoa_core.specs.Since.{cleared_comps};
 ghost use Rattle.samoa_core.specs.Turns.{HasCome, IsAway, IsNext, box_of};
 
@@ -22,6 +23,7 @@ impl<B: Micro> Core<B> {
         requires due { (micro : ℕ) × IsDue self.old (Step.Enter comp micro) }
         ensures comp { result.comp ≡ comp }
         ensures step { self.new ≡ with_step self.old (Step.Enter comp result.micro) }
+        ensures later { IsLater self.old self.new }
         ensures away { IsAway self.new result }
         ensures fewer { model.left (play self.new) (state self.new) < model.left (play self.old) (state self.old) }
     {
@@ -36,6 +38,7 @@ impl<B: Micro> Core<B> {
     pub fn leave(&mut self, ran: Ran<B>)
         requires away { IsAway self.old ran }
         ensures step { self.new ≡ with_step self.old (Step.Leave ran.comp) }
+        ensures later { IsLater self.old self.new }
         ensures fewer { model.left (play self.new) (state self.new) < model.left (play self.old) (state self.old) }
     {
         let comp = ran.comp();
@@ -49,6 +52,7 @@ impl<B: Micro> Core<B> {
     pub fn abandon(&mut self, turn: Turn<B>)
         requires away { IsAway self.old turn }
         ensures step { self.new ≡ with_step self.old (Step.Abandon turn.comp) }
+        ensures later { IsLater self.old self.new }
     {
         let comp = turn.comp();
         let micro = turn.micro();

@@ -1,5 +1,10 @@
+use Rattle.std.proofs.Common.{sym, subst}
+use Rattle.samoa_model.specs.declared.record.Step.{Step}
+use Rattle.samoa_invariant.specs.Runs.{Trace}
 use Rattle.samoa_core.proofs.Facts.{IsSound}
 use Rattle.samoa_core.proofs.Going.{IsBack, back}
+use Rattle.samoa_core.specs.Scans.{IsLater}
+use Rattle.samoa_core.proofs.Later.{later-step}
 use Rattle.samoa_core.proofs.kernel.Core.abandon.Goals as goal
 
 pub go_back-requires-clause-due : goal.go_back-requires-clause-due
@@ -23,3 +28,7 @@ go_back-requires-clause-within g c =
     } in
     let b : IsBack c.args.self.now c.args.turn = back c.args.self.now c.args.turn sound c.requires.away in
     rw c.micro-micro.ensures b.within
+
+pub returns-clause-later : goal.returns-clause-later
+returns-clause-later g c =
+    subst (λ (x : Trace). IsLater c.args.self.now x) (sym c.go_back.ensures.step) (later-step c.args.self.now (Step.Abandon c.comp-comp.result) c.admitted-admitted.ensures.run)

@@ -20,4 +20,4 @@ returns-clause-still g c =
     rw c.end_each.ensures.trace (record { out = a.out; stopped = a.stopped })
 
 pub returns-clause-later : goal.returns-clause-later
-returns-clause-later g c = rw c.end_each.ensures.trace (later-finished c.args.self.now)
+returns-clause-later g c = rw c.end_each.ensures.trace (later-finished c.args.self.now c.admitted-admitted.ensures.run)

@@ -1,12 +1,14 @@
-use Rattle.std.proofs.Common.{◌-◌, ap}
+use Rattle.std.proofs.Common.{◌-◌, ap, sym, subst}
 use Rattle.samoa_model.specs.declared.ids.MicroId.{MicroId}
 use Rattle.samoa_model.specs.declared.handler.Moment.{Moment}
 use Rattle.samoa_model.specs.declared.record.Step.{Step}
-use Rattle.samoa_invariant.specs.Runs.{state}
+use Rattle.samoa_invariant.specs.Runs.{Trace, state}
 use Rattle.samoa_invariant.proofs.Traces.{fewer}
 use Rattle.samoa_core.specs.Turns.{Going}
 use Rattle.samoa_core.proofs.Facts.{IsCallOf, IsSound, call_of}
 use Rattle.samoa_core.proofs.Going.{away-entered}
+use Rattle.samoa_core.specs.Scans.{IsLater}
+use Rattle.samoa_core.proofs.Later.{later-step}
 use Rattle.samoa_core.proofs.kernel.Core.enter.Goals as goal
 
 pub returns-clause-away : goal.returns-clause-away
@@ -32,3 +34,7 @@ returns-clause-fewer g c =
       past = c.admitted-admitted.ensures.past;
     } in
     rw c.go_out-held.ensures.step (fewer c.args.self.now (Step.Enter c.args.comp c.due-moment.result.0.0) sound.run tt c.due-moment.ensures.due)
+
+pub returns-clause-later : goal.returns-clause-later
+returns-clause-later g c =
+    subst (λ (x : Trace). IsLater c.args.self.now x) (sym c.go_out-held.ensures.step) (later-step c.args.self.now (Step.Enter c.args.comp c.due-moment.result.0.0) c.admitted-admitted.ensures.run)

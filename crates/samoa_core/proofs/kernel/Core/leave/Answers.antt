@@ -5,6 +5,8 @@ use Rattle.samoa_invariant.specs.Runs.{Trace, play, state, with_step}
 use Rattle.samoa_invariant.proofs.Traces.{fewer}
 use Rattle.samoa_core.proofs.Facts.{IsSound}
 use Rattle.samoa_core.proofs.Going.{IsBack, back}
+use Rattle.samoa_core.specs.Scans.{IsLater}
+use Rattle.samoa_core.proofs.Later.{later-step}
 use Rattle.samoa_core.proofs.kernel.Core.leave.Goals as goal
 
 pub go_home-requires-clause-due : goal.go_home-requires-clause-due
@@ -52,3 +54,7 @@ returns-clause-fewer g c =
     let is : c.go_home.new.self ≡ with_step c.args.self.now (Step.Leave c.args.ran.comp) =
     c.go_home.ensures.step ∙ ap (λ (k : ℕ). with_step c.args.self.now (Step.Leave k)) c.comp-comp.ensures in
     subst (λ (x : Trace). model.left (play x) (state x) < model.left (play c.args.self.now) (state c.args.self.now)) (sym is) (fewer c.args.self.now (Step.Leave c.args.ran.comp) sound.run tt (record { number = c.requires.away.first; enabled = b.leaves }))
+
+pub returns-clause-later : goal.returns-clause-later
+returns-clause-later g c =
+    subst (λ (x : Trace). IsLater c.args.self.now x) (sym c.go_home.ensures.step) (later-step c.args.self.now (Step.Leave c.comp-comp.result) c.admitted-admitted.ensures.run)

@@ -21,4 +21,4 @@ returns-clause-still g c =
     rw c.release_each.ensures.trace (record { out = r.out; stopped = r.stopped })
 
 pub returns-clause-later : goal.returns-clause-later
-returns-clause-later g c = rw c.release_each.ensures.trace (later-released c.args.self.now)
+returns-clause-later g c = rw c.release_each.ensures.trace (later-released c.args.self.now c.admitted-admitted.ensures.run)
