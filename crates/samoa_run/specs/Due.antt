@@ -73,7 +73,7 @@ due_text order (Ok script) = if can_do order script then output order script els
 due_text order (Err fault) = fault_line fault
 
 -- the status that what was written ends with
-abbrev pub ended_with : Result (Unit {0}) Stop → ℕ
+abbrev pub ended_with : {T : Type 0} → Result T Stop → ℕ
 ended_with (Ok done) = 0
 ended_with (Err stops.Failed) = 5
 ended_with (Err stops.Memory) = 6

@@ -10,10 +10,11 @@ ghost use Rattle.samoa_run.specs.Serving.{Answers};
 
 use crate::fault::{cells_line, fault_line};
 use crate::ready::built;
-use crate::report::write_report;
+use crate::report::run_script;
 use crate::stop::Stop;
 use crate::words::{CELLS, Order};
 use crate::writing::write_lines;
+use samoa_core::Core;
 use samoa_ends::{Failed, Sink};
 use samoa_micro::{Micro, Stock};
 use samoa_model::{NoMemory, Script};
@@ -66,7 +67,7 @@ fn run_in_parts<K: Sink, B: Micro>(
     if cells < needed {
         return refuse_cells(alloc, cells, needed, sink);
     }
-    status_of(write_report(alloc, script, stock, cells, false, calls, sink))
+    status_of(run_script(alloc, script, stock, cells, false, calls, sink))
 }
 
 /// Writes the report of a script that can run by now, by one computation after another.
@@ -87,15 +88,15 @@ fn run_one_by_one<K: Sink, B: Micro>(
     if !built(script) {
         return write_text(b"! script NotYet\n", 3, sink);
     }
-    status_of(write_report(alloc, script, stock, CELLS, true, calls, sink))
+    status_of(run_script(alloc, script, stock, CELLS, true, calls, sink))
 }
 
 /// The status of what was written.
-fn status_of(written: Result<(), Stop>) -> u8
+fn status_of<B: Micro>(written: Result<Core<B>, Stop>) -> u8
     ensures { result ≡ ended_with written }
 {
     match written {
-        Ok(()) => 0,
+        Ok(_) => 0,
         Err(Stop::Failed) => 5,
         Err(Stop::Memory) => 6,
     }

@@ -18,6 +18,9 @@ mod words;
 mod writing;
 
 pub use gate::{Gate, NoGate};
-pub use reading::LIMIT;
+pub use reading::{LIMIT, read_input};
 pub use ready::built;
+pub use report::run_script;
+pub use stop::Stop;
 pub use top::{check_only, serve, serve_serial};
+pub use words::CELLS;

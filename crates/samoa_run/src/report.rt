@@ -204,11 +204,31 @@ impl<B: Micro> Run<B> {
         write_lines(&self.text, sink)?;
         Ok(())
     }
+
+    /// Runs all that the script admits, and writes its report.
+    fn write_all<K: Sink>(
+        &mut self,
+        alloc: Global,
+        script: &Script,
+        calls: bool,
+        sink: &mut K,
+    ) -> Result<(), Stop>
+        requires in_range { IsInRange script.now }
+        requires has_run { HasRun script.now [] self.old.core self.old.totals }
+        ensures all { OnOk result (Appends (K.written sink.old) (K.written sink.new) (report script.now calls)) }
+        ensures part { OnErr result (AppendsPrefix (K.written sink.old) (K.written sink.new) (report script.now calls)) }
+        ensures cause { StopsFor (K.faults sink.old) (K.faults sink.new) result }
+    {
+        let items = by_tick(alloc, script)?;
+        self.write_history(alloc, script, calls, &items, sink)?;
+        self.write_end(script, sink)
+    }
 }
 
-/// Runs a script in a core of so many cells, and writes its report, with the lines of calls where `calls` is given. What
-/// has room runs together, tick by tick, or each computation alone where `one_by_one` is given.
-pub fn write_report<B: Micro, K: Sink>(
+/// Runs a script in a core of so many cells, writes its report, with the lines of calls where `calls` is given, and gives
+/// back the core that made the steps. What has room runs together, tick by tick, or each computation alone where
+/// `one_by_one` is given.
+pub fn run_script<B: Micro, K: Sink>(
     alloc: Global,
     script: &Script,
     stock: Stock<B>,
@@ -216,7 +236,7 @@ pub fn write_report<B: Micro, K: Sink>(
     one_by_one: bool,
     calls: bool,
     sink: &mut K,
-) -> Result<(), Stop>
+) -> Result<Core<B>, Stop>
     requires in_range { IsInRange script.now }
     requires built { IsBuilt script.now }
     requires declares { DeclaresKnown script.now }
@@ -226,8 +246,7 @@ pub fn write_report<B: Micro, K: Sink>(
     ensures part { OnErr result (AppendsPrefix (K.written sink.old) (K.written sink.new) (report script.now calls)) }
     ensures cause { StopsFor (K.faults sink.old) (K.faults sink.new) result }
 {
-    let items = by_tick(alloc, script)?;
     let mut run = Run::new(alloc, script, stock, cells, one_by_one)?;
-    run.write_history(alloc, script, calls, &items, sink)?;
-    run.write_end(script, sink)
+    run.write_all(alloc, script, calls, sink)?;
+    Ok(run.core)
 }

@@ -4,14 +4,14 @@ use Rattle.samoa_run.specs.Built.{is_built}
 use Rattle.samoa_run.proofs.Runnable.{built-is, built-covers, few_needed}
 use Rattle.samoa_run.proofs.answer.run_one_by_one.Goals as goal
 
-pub write_report-requires-clause-built : goal.write_report-requires-clause-built
-write_report-requires-clause-built g c =
+pub run_script-requires-clause-built : goal.run_script-requires-clause-built
+run_script-requires-clause-built g c =
     let passes : is_built c.args.script.now ≡ true = cc in built-is c.args.script.now passes
 
-pub write_report-requires-clause-covers : goal.write_report-requires-clause-covers
-write_report-requires-clause-covers g c =
+pub run_script-requires-clause-covers : goal.run_script-requires-clause-covers
+run_script-requires-clause-covers g c =
     let passes : is_built c.args.script.now ≡ true = cc in
     built-covers c.args.script.now c.args.stock c.requires.in_range passes c.requires.stock
 
-pub write_report-requires-clause-cells : goal.write_report-requires-clause-cells
-write_report-requires-clause-cells g c = omega (arith, few_needed c.args.script.now c.requires.in_range)
+pub run_script-requires-clause-cells : goal.run_script-requires-clause-cells
+run_script-requires-clause-cells g c = omega (arith, few_needed c.args.script.now c.requires.in_range)

@@ -1,7 +1,7 @@
 use Rattle.std.proofs.lemmas.Result.{on_ok_weaker, on_err_weaker}
 use Rattle.samoa_run.proofs.Closing.{report_begun, report_in_part, report_written}
 use Rattle.samoa_run.proofs.Parts.{on_err}
-use Rattle.samoa_run.proofs.report.write_report.Goals as goal
+use Rattle.samoa_run.proofs.report.Run.write_all.Goals as goal
 
 pub returns-in_err-write_history-clause-part : goal.returns-in_err-write_history-clause-part
 returns-in_err-write_history-clause-part g c =
