@@ -7,6 +7,7 @@ use Rattle.samoa_model.specs.declared.record.Ending.{Ending}
 use Rattle.samoa_serial.specs.declared.call.Active.{Active}
 use Rattle.samoa_serial.specs.declared.call.Waiting.{Waiting}
 use Rattle.samoa_serial.specs.declared.call.Call.{Call}
+use Rattle.samoa_model.specs.declared.ids.HandlerId.{HandlerId}
 use Rattle.samoa_model.specs.declared.ids.MicroId.{MicroId}
 use Rattle.samoa_serial.specs.World.{Books}
 use Rattle.samoa_serial.specs.Calls.{Computation, first_answer, given}
@@ -33,6 +34,13 @@ IsNamed table (Outcome.Done reply) = Unit {0}
 IsNamed table (Outcome.Send to event arg frame) = Unit {0}
 IsNamed table (Outcome.Deliver arg frame) = Unit {0}
 IsNamed table (Outcome.Change change arg frame) = Unit {0}
+
+-- what a bound counts is at the microprotocols 0 to 23
+abbrev pub AreCounted : List HandlerId → Type 0
+AreCounted handlers = All (λ (h : HandlerId). h.micro.0 < 24) handlers
+
+abbrev pub IsCounted : Table → Type 0
+IsCounted table = All AreCounted table
 
 -- the microprotocol of a call that this outcome ends
 abbrev pub ended_at : Call → Outcome → Option MicroId

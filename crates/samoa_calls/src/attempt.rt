@@ -13,21 +13,27 @@ use samoa_model::{Decl, Entry, EventId, HandlerId, Refusal, Words};
 use samoa_serial::{Active, Call};
 use samoa_transcript::Transcript;
 
-/// The refusal of a list of handlers under a set, None where they are called.
-fn refusal(decl: &Decl, caller: Option<HandlerId>, handlers: &[HandlerId]) -> Option<Refusal>
-    requires set { IsSet decl.now }
-    ensures { (entries : List Entry)
+/// The refusal of a list of handlers after these calls, None where they are called, and are counted.
+fn refusal(
+    decl: &Decl,
+    visits: &mut Visits,
+    caller: Option<HandlerId>,
+    handlers: &[HandlerId],
+) -> Option<Refusal>
+    requires counted { AreCounted handlers.now }
+    requires room { HasRoomFor visits.old handlers.now }
+    ensures refusal { (entries : List Entry) → Counts visits.old entries
         → result ≡ refusal_in (attempt_all decl.now entries caller handlers.now) }
+    ensures visits { result ≡ None → visits.new ≡ counted visits.old handlers.now }
 {
     if handlers.is_empty() {
         return Some(Refusal::Unbound);
     }
-    // A set doesn't count the calls made.
-    let visits = Visits::new();
     for handler in handlers {
-        if let Err(refusal) = allows(decl, &visits, caller, *handler) {
+        if let Err(refusal) = allows(decl, visits, caller, *handler) {
             return Some(refusal);
         }
+        visits.add(handler.micro);
     }
     None
 }
@@ -72,10 +78,12 @@ fn enter(entries: &mut Transcript, made: u32, caller: u32, arg: Words, handlers:
     }
 }
 
-/// Attempts the event's handlers: enters the refusal and answers it, or enters the calls and makes them active.
+/// Attempts the event's handlers: enters the refusal and answers it, or enters the calls, counts them and makes them
+/// active. A refused attempt counts nowhere.
 pub(crate) fn attempt(
     active: &mut Vec<Active>,
     entries: &mut Transcript,
+    visits: &mut Visits,
     made: u32,
     decl: &Decl,
     handlers: &[HandlerId],
@@ -83,8 +91,9 @@ pub(crate) fn attempt(
     event: EventId,
     arg: Words,
 ) -> Option<Refusal>
-    requires set { IsSet decl.now }
     requires few { length handlers.now ≤ 4 }
+    requires counted { AreCounted handlers.now }
+    requires visits { Counts visits.old entries.old.entries }
     requires active_room { length active.old.items + 4 ≤ vec_capacity active.old }
     requires entries_room { 4 ≤ entries.old.room }
     requires made { made ≡ calls_made entries.old.entries }
@@ -96,11 +105,13 @@ pub(crate) fn attempt(
     ensures active { reverse active.new.items
         ≡ active_after entries.old.entries (reverse active.old.items) arg
         (attempt_all decl.now entries.old.entries (handler_in caller) handlers.now) }
+    ensures visits { Counts visits.new entries.new.entries }
     ensures active_capacity { vec_capacity active.new ≡ vec_capacity active.old }
     ensures entries_capacity { entries.new.room + length entries.new.entries
         ≡ entries.old.room + length entries.old.entries }
 {
-    let refused = refusal(decl, handler_of(caller), handlers);
+    let mut tested = *visits;
+    let refused = refusal(decl, &mut tested, handler_of(caller), handlers);
     match refused {
         Some(refusal) => {
             entries.push(Entry::Refused {
@@ -112,6 +123,7 @@ pub(crate) fn attempt(
         None => {
             enter(entries, made, number_of(caller), arg, handlers);
             activate(active, made, arg, handlers);
+            *visits = tested;
         }
     }
     refused

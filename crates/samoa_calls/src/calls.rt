@@ -1,7 +1,6 @@
 //! The calls of a computation, as an explicit list of the active ones.
 ghost use Rattle.std.specs.Prelude.{◌≡◌, ◌<◌, ◌≤◌, ◌↔◌, List, [], ◌∷◌, length, None, false, IfOk, IsSome, IsTrue, slice_get};
 ghost use Rattle.samoa_model.specs.Entries.{calls_made};
-ghost use Rattle.samoa_model.specs.Range.{IsSet};
 ghost use Rattle.samoa_model.specs.Scripts.{Table, resolve};
 ghost use Rattle.samoa_serial.specs.declared.call.Active.{Active};
 ghost use Rattle.samoa_serial.specs.declared.call.Call.{Call};
@@ -13,6 +12,7 @@ ghost use Rattle.samoa_calls.specs.Handed.{AreNamed, IsNamed, ended_at, ending_o
 use crate::attempt::attempt;
 use crate::stack::{go_on, hand, wait};
 use samoa_bind::Tables;
+use samoa_declare::Visits;
 use samoa_model::{
     Decl, Ending, Entry, EventId, HandlerId, MicroId, Moment, NoMemory, NodeId, Outcome, Refusal,
     Reply, Words,
@@ -22,12 +22,15 @@ use samoa_transcript::Transcript;
 use std::alloc::Global;
 use std::marker::Model;
 
-/// The innermost active call stands last. Of `waiting` the first `taken` were taken out.
+/// The innermost active call stands last. Of `waiting` the first `taken` were taken out, and of their handlers `passed`.
 #[derive(Drop)]
 pub(crate) struct Calls {
     active: Vec<Active>,
     waiting: Vec<Waiting>,
     taken: usize,
+    handlers: Vec<HandlerId>,
+    passed: usize,
+    visits: Visits,
     units: u32,
     made: u32,
     entries: Transcript,
@@ -55,11 +58,15 @@ impl Calls {
         let most = budget as usize;
         let active = Vec::with_capacity(alloc, 4 * most + 4)?;
         let waiting = Vec::with_capacity(alloc, most)?;
+        let handlers = Vec::with_capacity(alloc, 4 * most)?;
         let entries = Transcript::new(alloc, 9 * most + 8)?;
         Ok(Calls {
             active,
             waiting,
             taken: 0,
+            handlers,
+            passed: 0,
+            visits: Visits::new(),
             units: budget,
             made: 0,
             entries,
@@ -79,11 +86,17 @@ impl Calls {
         let mut waiting = self.waiting;
         waiting.clear();
         waiting.reserve(most)?;
+        let mut handlers = self.handlers;
+        handlers.clear();
+        handlers.reserve(4 * most)?;
         let entries = self.entries.renewed(9 * most + 8)?;
         Ok(Calls {
             active,
             waiting,
             taken: 0,
+            handlers,
+            passed: 0,
+            visits: Visits::new(),
             units: budget,
             made: 0,
             entries,
@@ -93,7 +106,6 @@ impl Calls {
 
     /// The root call is attempted.
     pub(crate) fn start(&mut self, decl: &Decl, handlers: &[HandlerId], event: EventId, arg: Words)
-        requires set { IsSet decl.now }
         requires few { length handlers.now ≤ 4 }
         requires fresh { self.old ≡ fresh self.old.units }
         ensures none_waits { self.new.waiting ≡ [] }
@@ -103,6 +115,7 @@ impl Calls {
         let refused = attempt(
             &mut self.active,
             &mut self.entries,
+            &mut self.visits,
             self.made,
             decl,
             handlers,
@@ -140,7 +153,6 @@ impl Calls {
         epoch: u32,
         outcome: Outcome,
     ) -> Option<MicroId>
-        requires set { IsSet decl.now }
         requires active { (a : Active) × (rest : List Active) × (self.old.active ≡ a ∷ rest) }
         requires epoch { epoch < length (epochs_of tables.now node) }
         requires waiting_named { AreNamed (table_at tables.now node epoch) self.old.waiting }
@@ -172,7 +184,6 @@ impl Calls {
 
     /// An outcome other than Done takes effect, for a unit.
     fn spend(&mut self, decl: &Decl, tables: &Tables, node: NodeId, epoch: u32, outcome: Outcome)
-        requires set { IsSet decl.now }
         requires unit { 0 < self.old.units }
         requires active { (a : Active) × (rest : List Active) × (self.old.active ≡ a ∷ rest) }
         requires epoch { epoch < length (epochs_of tables.now node) }
@@ -189,7 +200,10 @@ impl Calls {
                 let handlers = tables.resolve(node, epoch, event);
                 self.call(decl, handlers, event, arg, frame);
             }
-            Outcome::Later { event, arg, frame } => self.ask(event, arg, frame),
+            Outcome::Later { event, arg, frame } => {
+                let handlers = tables.resolve(node, epoch, event);
+                self.ask(handlers, event, arg, frame);
+            }
             Outcome::Send {
                 to,
                 event,
@@ -253,7 +267,6 @@ impl Calls {
 
     /// The waiting calls are attempted until one is accepted or none waits.
     fn wake(&mut self, decl: &Decl, tables: &Tables, node: NodeId, epoch: u32)
-        requires set { IsSet decl.now }
         requires idle { self.old.active ≡ [] }
         requires epoch { epoch < length (epochs_of tables.now node) }
         requires names { AreNamed (table_at tables.now node epoch) self.old.waiting }
@@ -264,9 +277,11 @@ impl Calls {
             let first = self.waiting[self.taken];
             self.taken += 1;
             let handlers = tables.resolve(node, epoch, first.event);
+            self.passed += handlers.len();
             let refused = attempt(
                 &mut self.active,
                 &mut self.entries,
+                &mut self.visits,
                 self.made,
                 decl,
                 handlers,
@@ -318,11 +333,13 @@ impl Calls {
         });
         self.active.clear();
         self.taken = self.waiting.len();
+        self.passed = self.handlers.len();
         self.answer = Some(Ending::Cut);
     }
 
-    /// The innermost call asked for a call that waits, for a unit, and goes on.
-    fn ask(&mut self, event: EventId, arg: Words, frame: Words)
+    /// The innermost call asked for a call of an event with these handlers that waits, for a unit, and goes on.
+    fn ask(&mut self, handlers: &[HandlerId], event: EventId, arg: Words, frame: Words)
+        requires few { length handlers.now ≤ 4 }
         requires unit { 0 < self.old.units }
         requires active { (a : Active) × (rest : List Active) × (self.old.active ≡ a ∷ rest) }
         ensures { (a : Active) (rest : List Active) → self.old.active ≡ a ∷ rest
@@ -336,12 +353,38 @@ impl Calls {
             event,
             arg,
         });
+        self.list(handlers);
         self.entries.push(Entry::Waiting {
             call: call.number,
             event,
             arg,
         });
         go_on(&mut self.active, frame, Reply::Words(Words::new()));
+    }
+
+    /// Lists the handlers of a call that waits.
+    fn list(&mut self, handlers: &[HandlerId]) {
+        for handler in handlers {
+            self.handlers.push_reserved(*handler);
+        }
+    }
+
+    /// The handler of an active call, the innermost first, None exactly past the last of them.
+    pub(crate) fn active(&self, at: usize) -> Option<HandlerId> {
+        if at < self.active.len() {
+            Some(self.active[self.active.len() - 1 - at].call.handler)
+        } else {
+            None
+        }
+    }
+
+    /// A handler of a waiting call, None exactly past the last of them.
+    pub(crate) fn waiting(&self, at: usize) -> Option<HandlerId> {
+        if at < self.handlers.len() - self.passed {
+            Some(self.handlers[self.passed + at])
+        } else {
+            None
+        }
     }
 
     /// The innermost call called an event that has these handlers, for a unit.
@@ -353,7 +396,6 @@ impl Calls {
         arg: Words,
         frame: Words,
     )
-        requires set { IsSet decl.now }
         requires few { length handlers.now ≤ 4 }
         requires unit { 0 < self.old.units }
         requires active { (a : Active) × (rest : List Active) × (self.old.active ≡ a ∷ rest) }
@@ -368,6 +410,7 @@ impl Calls {
         let refused = attempt(
             &mut self.active,
             &mut self.entries,
+            &mut self.visits,
             self.made,
             decl,
             handlers,

@@ -1,16 +1,16 @@
 //! A computation with the number of its declaration.
 ghost use Rattle.std.specs.Prelude.{◌≡◌, ◌<◌, ◌≤◌, ◌↔◌, List, [], ◌∷◌, length, IfOk, IsSome, IsTrue, slice_get};
-ghost use Rattle.samoa_model.specs.Range.{IsSet};
 ghost use Rattle.samoa_model.specs.Scripts.{Table, resolve};
 ghost use Rattle.samoa_serial.specs.declared.call.Active.{Active};
 ghost use Rattle.samoa_serial.specs.World.{attempts_of};
 ghost use Rattle.samoa_serial.specs.Calls.{start, take_outcome};
 ghost use Rattle.samoa_bind.specs.Bound.{epochs_of, table_at};
-ghost use Rattle.samoa_calls.specs.Held.{Held};
-ghost use Rattle.samoa_calls.specs.Handed.{AreNamed, IsNamed, ended_at, ending_of, fresh, next_moment};
+ghost use Rattle.samoa_calls.specs.Held.{Held, handlers_of};
+ghost use Rattle.samoa_calls.specs.Handed.{AreCounted, AreNamed, IsCounted, IsNamed, ended_at, ending_of, fresh, next_moment};
 
 use crate::calls::Calls;
 use samoa_bind::Tables;
+use samoa_declare::Standing;
 use samoa_model::{
     Decl, Ending, Entry, EventId, HandlerId, MicroId, Moment, NoMemory, NodeId, Outcome, Words,
 };
@@ -26,11 +26,28 @@ pub struct Comp {
 }
 
 impl Model for Comp {
-    ghost use Rattle.samoa_calls.specs.Held.{Held};
+    ghost use Rattle.samoa_calls.specs.Held.{Held, handlers_of};
 
     ghost Value = { Held };
 
-    ghost view = { λ c. record { decl = c.decl; comp = c.calls } };
+    ghost view = { λ c. record { decl = c.decl; comp = c.calls.comp; waiting_handlers = c.calls.waiting_handlers } };
+}
+
+/// Its active calls, the innermost first, and its waiting calls, the first first, each with all its handlers.
+impl Standing for Comp {
+    ghost use Rattle.std.specs.Prelude.{map};
+
+    ghost active_handlers = { λ c. map (λ a. a.call.handler) c.active };
+
+    ghost waiting_handlers = { λ c. c.waiting_handlers };
+
+    fn active(&self, at: usize) -> Option<HandlerId> {
+        self.calls.active(at)
+    }
+
+    fn waiting(&self, at: usize) -> Option<HandlerId> {
+        self.calls.waiting(at)
+    }
 }
 
 impl Comp {
@@ -39,7 +56,7 @@ impl Comp {
     pub fn new(alloc: Global, decl: u32, budget: u32) -> Result<Comp, NoMemory>
         requires some { 1 ≤ budget }
         requires few { budget ≤ 256 }
-        ensures { IfOk result (λ comp. comp ≡ record { decl = decl; comp = fresh budget }) }
+        ensures { IfOk result (λ comp. comp ≡ record { decl = decl; comp = fresh budget; waiting_handlers = [] }) }
     {
         let calls = Calls::new(alloc, budget)?;
         Ok(Comp { decl, calls })
@@ -49,7 +66,7 @@ impl Comp {
     pub fn renewed(self, decl: u32, budget: u32) -> Result<Comp, NoMemory>
         requires some { 1 ≤ budget }
         requires few { budget ≤ 256 }
-        ensures { IfOk result (λ comp. comp ≡ record { decl = decl; comp = fresh budget }) }
+        ensures { IfOk result (λ comp. comp ≡ record { decl = decl; comp = fresh budget; waiting_handlers = [] }) }
     {
         let calls = self.calls.renewed(budget)?;
         Ok(Comp { decl, calls })
@@ -65,8 +82,8 @@ impl Comp {
     /// Attempts the root call, of an event with these handlers, of which there are at most four, in a new computation.
     /// It takes no memory.
     pub fn start(&mut self, decl: &Decl, handlers: &[HandlerId], event: EventId, arg: Words)
-        requires set { IsSet decl.now }
         requires few { length handlers.now ≤ 4 }
+        requires counted { AreCounted handlers.now }
         requires fresh { self.old.comp ≡ fresh self.old.units }
         ensures started { (table : Table) → resolve table event ≡ handlers.now
             → self.new ≡ record self.old { comp = start (attempts_of decl.now table) self.old.units event arg } }
@@ -93,13 +110,15 @@ impl Comp {
         epoch: u32,
         outcome: Outcome,
     ) -> Option<MicroId>
-        requires set { IsSet decl.now }
         requires active { (a : Active) × (rest : List Active) × (self.old.active ≡ a ∷ rest) }
         requires epoch { epoch < length (epochs_of tables.now node) }
+        requires counted { IsCounted (table_at tables.now node epoch) }
+        requires listed { self.old.waiting_handlers ≡ handlers_of (table_at tables.now node epoch) self.old.waiting }
         requires waiting_named { AreNamed (table_at tables.now node epoch) self.old.waiting }
         requires named { IsNamed (table_at tables.now node epoch) outcome }
         ensures taken { self.new ≡ record self.old {
           comp = take_outcome (attempts_of decl.now (table_at tables.now node epoch)) self.old.comp outcome;
+          waiting_handlers = handlers_of (table_at tables.now node epoch) self.new.waiting;
         } }
         ensures ended { (a : Active) (rest : List Active) → self.old.active ≡ a ∷ rest
             → result ≡ ended_at a.call outcome }

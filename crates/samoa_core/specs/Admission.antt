@@ -25,6 +25,7 @@ started script ext =
     record {
       decl = decl_number script ext;
       comp = start (attempts_of decl.decl (first_table script)) decl.budget (root_of script ext.cause) ext.args;
+      waiting_handlers = [];
     }
 
 -- how many steps are kept room for: of each handler step its Enter and its Leave, the releases and the End, and an Enter that

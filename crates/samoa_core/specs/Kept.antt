@@ -6,11 +6,11 @@ use Rattle.samoa_model.specs.declared.script.Script.{Script}
 use Rattle.samoa_model.specs.Scripts.{Table, first_table}
 use Rattle.samoa_model.specs.Range.{IsBuilt, IsExtOf, IsInRange}
 use Rattle.samoa_bind.specs.Bound.{first_tables}
-use Rattle.samoa_calls.specs.Held.{Held}
+use Rattle.samoa_calls.specs.Held.{Held, handlers_of}
 use Rattle.samoa_calls.specs.Handed.{AreNamed}
 use Rattle.samoa_invariant.specs.State as model
 use Rattle.samoa_invariant.specs.Runs.{IsRun, Trace, ext_at, play, state}
-use Rattle.samoa_core.specs.Known.{DeclaresKnown, decl_number}
+use Rattle.samoa_core.specs.Known.{decl_number}
 use Rattle.samoa_core.specs.Since.{cleared_comps}
 use Rattle.samoa_core.specs.Places.{slot_in}
 use Rattle.samoa_core.specs.Room.{to_come}
@@ -42,7 +42,7 @@ trace_of fs = record { script = fs.script; cells = fs.cells; exts = fs.exts; cle
 
 -- a computation with the number of its declaration
 abbrev pub held_of : Script → List Ext → model.Core → ℕ → Held
-held_of script exts core k = record { decl = decl_number script (ext_at exts k); comp = core.comp k }
+held_of script exts core k = record { decl = decl_number script (ext_at exts k); comp = core.comp k; waiting_handlers = handlers_of (first_table script) (core.comp k).waiting }
 
 -- what the fields hold of a state of the model
 pub record Holds (fs : Fields) (core : model.Core) : Type 0 where
@@ -64,7 +64,6 @@ pub record Holds (fs : Fields) (core : model.Core) : Type 0 where
 pub record Kept (fs : Fields) : Type 0 where
   pub in_range : IsInRange fs.script
   pub built : IsBuilt fs.script
-  pub declares : DeclaresKnown fs.script
   pub tables : fs.tables ≡ first_tables fs.script
   pub micros : fs.slots.micros ≡ length fs.script.micros
   pub known : (k : ℕ) → k < length fs.exts → IsExtOf fs.script (ext_at fs.exts k)

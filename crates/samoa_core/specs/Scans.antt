@@ -6,6 +6,7 @@ use Rattle.samoa_serial.specs.declared.call.Active.{Active}
 use Rattle.samoa_serial.specs.declared.call.Waiting.{Waiting}
 use Rattle.samoa_serial.specs.Calls.{Computation}
 use Rattle.samoa_invariant.specs.Play.{Play}
+use Rattle.samoa_invariant.specs.Settle.{is_quiet}
 use Rattle.samoa_invariant.specs.State as model
 use Rattle.samoa_invariant.specs.Runs.{Trace, play, state}
 use Rattle.samoa_core.specs.Since.{cleared_comps}
@@ -25,11 +26,11 @@ is_idle comp = none_left comp.active comp.waiting
 abbrev pub has_turn : ℕ → ℕ → ℕ → Bool
 has_turn private local weight = nat_le private (local + weight) && nat_lt local private
 
--- whether the release of a set is due
+-- whether a release is due
 abbrev pub may_release : Play → model.Core → ℕ → ℕ → Bool
 may_release P core k p =
     nat_lt zero (weight (P.decl k) p)
-    && (has_turn (core.private k (P.node k) p) (core.local (P.node k) p) (weight (P.decl k) p) && is_idle (core.comp k))
+    && (has_turn (core.private k (P.node k) p) (core.local (P.node k) p) (weight (P.decl k) p) && is_quiet (P.decl k) (core.table k) (core.comp k) p)
 
 -- whether a microprotocol isn't declared, or is past, and whether each of the first n is
 abbrev pub is_past : Play → model.Core → ℕ → ℕ → Bool

@@ -4,7 +4,7 @@ use Rattle.samoa_model.specs.declared.handler.Moment.{Moment}
 use Rattle.samoa_model.specs.declared.handler.Outcome.{Outcome}
 use Rattle.samoa_model.specs.declared.script.Script.{Script}
 use Rattle.samoa_model.specs.Scripts.{decl_at, first_table}
-use Rattle.samoa_calls.specs.Held.{Held}
+use Rattle.samoa_calls.specs.Held.{Held, handlers_of}
 use Rattle.samoa_calls.specs.Handed.{AreNamed}
 use Rattle.samoa_serial.specs.declared.call.Active.{Active}
 use Rattle.samoa_serial.specs.World.{attempts_of}
@@ -52,10 +52,10 @@ pub record HasCome (t : Trace) (comp micro : ℕ) (held : Seen) (outcome : Outco
 pub record IsReady (script : Script) (h : Held) : Type 0 where
   pub decl : h.decl < length script.decls
   pub active : (a : Active) × (rest : List Active) × (h.comp.active ≡ a ∷ rest)
+  pub listed : h.waiting_handlers ≡ handlers_of (first_table script) h.comp.waiting
   pub named : AreNamed (first_table script) h.comp.waiting
 
 abbrev pub taken : Script → Held → Outcome → Held
-taken script h outcome = record {
-  decl = h.decl;
-  comp = take_outcome (attempts_of (decl_at script h.decl).decl (first_table script)) h.comp outcome;
-}
+taken script h outcome =
+    let comp = take_outcome (attempts_of (decl_at script h.decl).decl (first_table script)) h.comp outcome in
+    record { decl = h.decl; comp = comp; waiting_handlers = handlers_of (first_table script) comp.waiting }

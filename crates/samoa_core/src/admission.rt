@@ -1,19 +1,18 @@
 //! Admissions.
 ghost use Rattle.std.specs.Prelude.{◌≡◌, ℕ, ◌<◌, ◌≤◌, ◌+◌, ◌-◌, ◌*◌, ◌^◌, ◌++◌, ◌∷◌, [], length, get_or, set, IfOk, IfErr, OnOk, OnErr, vec_capacity};
 ghost use Rattle.samoa_model.specs.Cells.{cells_of as computation_cells};
-ghost use Rattle.samoa_model.specs.Range.{IsBuilt, IsExtOf, IsInRange, IsSet};
+ghost use Rattle.samoa_model.specs.Range.{IsBuilt, IsDeclOf, IsExtOf, IsInRange};
 ghost use Rattle.samoa_model.specs.declared.script.Decl.{Decl};
 ghost use Rattle.samoa_model.specs.declared.record.Step.{Step};
 ghost use Rattle.samoa_model.specs.Scripts.{decl_of};
 ghost use Rattle.samoa_bind.specs.Bound.{first_tables};
 ghost use Rattle.samoa_calls.specs.Handed.{fresh};
-ghost use Rattle.samoa_invariant.specs.State.{named};
 ghost use Rattle.samoa_invariant.specs.Runs.{Trace, play, state};
 ghost use Rattle.samoa_core.specs.Admission.{admitted, raised, started, steps_of as steps_to_come, taken_versions, version_after};
 ghost use Rattle.samoa_core.specs.Scans.{IsStill};
 ghost use Rattle.samoa_core.specs.Since.{cleared_comps};
 
-use crate::cells::weight;
+use crate::forms::{named_count, weight};
 use crate::kernel::Core;
 use crate::parts::{cells_of, decl_in, decl_number, root_of};
 use samoa_bind::Tables;
@@ -181,22 +180,10 @@ fn sum(a: u64, b: u64) -> Result<u64, NoMemory>
 /// How many steps room is kept for of a computation under this declaration.
 fn steps_for(decl: &DeclDef) -> Result<u64, NoMemory>
     requires budget { decl.now.budget ≤ 256 }
-    requires set { IsSet decl.now.decl }
     ensures { IfOk result (λ steps. steps ≡ steps_to_come decl.now) }
 {
     let fixed = 10 * u64::from(decl.budget) + 12;
-    sum(fixed, declared_count(&decl.decl) as u64)
-}
-
-/// How many microprotocols a set names.
-fn declared_count(decl: &Decl) -> usize
-    requires { IsSet decl.now }
-    ensures { result ≡ length (named decl.now) }
-{
-    match decl {
-        Decl::Set { micros } => micros.len(),
-        _ => unreachable!(),
-    }
+    sum(fixed, named_count(&decl.decl) as u64)
 }
 
 /// Takes the versions of the node of an admission for its computation.
@@ -205,7 +192,7 @@ fn versions_of(script: &Script, ext: &Ext, global: &mut Vec<u64>, private: &mut 
     requires built { IsBuilt script.now }
     requires known { IsExtOf script.now ext.now }
     requires there { length global.old.items ≡ script.now.nodes * length script.now.micros }
-    requires small { (p : ℕ) → p < length script.now.micros → get_or global.old.items (ext.now.node.0 * length script.now.micros + p) 0 + 1 < 2 ^ 64 }
+    requires small { (p : ℕ) → p < length script.now.micros → get_or global.old.items (ext.now.node.0 * length script.now.micros + p) 0 + 256 < 2 ^ 64 }
     requires room { length private.old.items + length script.now.micros ≤ vec_capacity private.old }
     ensures global { global.new.items ≡ raised (decl_of script.now ext.now).decl (length script.now.micros) ext.now.node.0 global.old.items (length script.now.micros) }
     ensures private { private.new.items ≡ private.old.items ++ taken_versions (decl_of script.now ext.now).decl (length script.now.micros) ext.now.node.0 global.old.items (length script.now.micros) }
@@ -224,9 +211,8 @@ fn take_versions(
     global: &mut Vec<u64>,
     private: &mut Vec<u64>,
 )
-    requires set { IsSet decl.now }
     requires there { node * columns + columns ≤ length global.old.items }
-    requires small { (p : ℕ) → p < columns → get_or global.old.items (node * columns + p) 0 + 1 < 2 ^ 64 }
+    requires small { (p : ℕ) → p < columns → get_or global.old.items (node * columns + p) 0 + 256 < 2 ^ 64 }
     requires few { columns ≤ 24 }
     requires room { length private.old.items + columns ≤ vec_capacity private.old }
     ensures global { global.new.items ≡ raised decl.now columns node global.old.items columns }
@@ -241,9 +227,8 @@ fn take_versions(
 }
 
 fn take_version(decl: &Decl, columns: usize, node: u32, micro: u32, global: &mut Vec<u64>) -> u64
-    requires set { IsSet decl.now }
     requires there { node * columns + micro < length global.old.items }
-    requires small { get_or global.old.items (node * columns + micro) 0 + 1 < 2 ^ 64 }
+    requires small { get_or global.old.items (node * columns + micro) 0 + 256 < 2 ^ 64 }
     ensures version { result ≡ version_after decl.now columns node global.old.items micro }
     ensures raised { global.new.items ≡ set global.old.items (node * columns + micro) result }
 {

@@ -1,13 +1,10 @@
 //! Tables of numbers with one row after another, and the test of a turn.
-ghost use Rattle.std.specs.Prelude.{◌≡◌, ◌<◌, ◌≤◌, ◌+◌, ◌*◌, ℕ, length, Some, slice_get, set, List, [], if◌then◌else◌, replicate, IfOk, vec_capacity, ◌++◌, ◌∷◌, ◌-◌, ◌==◌};
-ghost use Rattle.std.specs.List.{list_any};
-ghost use Rattle.samoa_model.specs.Allowed.{weight};
-ghost use Rattle.samoa_model.specs.Range.{IsSet};
+ghost use Rattle.std.specs.Prelude.{◌≡◌, ◌<◌, ◌≤◌, ◌+◌, ◌*◌, ℕ, length, Some, slice_get, set, List, [], replicate, IfOk, vec_capacity, ◌++◌, ◌∷◌, ◌-◌};
 ghost use Rattle.samoa_model.specs.declared.record.Step.{Step};
 ghost use Rattle.samoa_invariant.specs.State.{or_last};
 ghost use Rattle.samoa_core.specs.Scans.{has_turn};
 
-use samoa_model::{Decl, Listed, NoMemory, Step};
+use samoa_model::{NoMemory, Step};
 use std::alloc::Global;
 
 /// So many zeros.
@@ -62,32 +59,4 @@ pub(crate) fn has_turn(private: u64, local: u64, weight: u64) -> bool
     ensures { result ≡ has_turn private local weight }
 {
     local < private && private - local <= weight
-}
-
-/// How much a set allows of a microprotocol.
-pub(crate) fn weight(decl: &Decl, micro: u32) -> u64
-    requires { IsSet decl.now }
-    ensures weight { result ≡ weight decl.now micro }
-    ensures few { result ≤ 1 }
-{
-    match decl {
-        Decl::Set { micros } => set_weight(micros, micro),
-        _ => unreachable!(),
-    }
-}
-
-fn set_weight(micros: &Listed<u32>, micro: u32) -> u64
-    ensures { result ≡ (if list_any (λ q. q == micro) micros.now then 1 else 0) }
-{
-    if declared(micros.as_slice(), micro) {
-        1
-    } else {
-        0
-    }
-}
-
-fn declared(micros: &[u32], micro: u32) -> bool
-    ensures { result ≡ list_any (λ q. q == micro) micros.now }
-{
-    micros.iter().any(|q| *q == micro)
 }

@@ -2,18 +2,19 @@
 ghost use Rattle.std.specs.Prelude.{◌≡◌, ℕ, ◌<◌, ◌≤◌, ◌+◌, ◌-◌, ◌*◌, ◌↔◌, length, Some, None, true, false, not, ◌&&◌, IsTrue, IfOk, option_map, IfSome, IfNone};
 ghost use Rattle.samoa_model.specs.Allowed.{weight};
 ghost use Rattle.samoa_model.specs.Cells.{cells_of as computation_cells, need};
-ghost use Rattle.samoa_model.specs.Range.{IsBuilt, IsExtOf, IsInRange, IsSet};
+ghost use Rattle.samoa_model.specs.Range.{IsBuilt, IsDeclOf, IsExtOf, IsInRange};
 ghost use Rattle.samoa_model.specs.declared.record.Step.{Step};
 ghost use Rattle.samoa_calls.specs.Handed.{next_moment};
 ghost use Rattle.samoa_micro.specs.Covers.{Covers};
 ghost use Rattle.samoa_invariant.specs.State as model;
 ghost use Rattle.samoa_invariant.specs.Runs.{IsDue, IsRun, Trace, ext_at, opening_trace, play, state};
-ghost use Rattle.samoa_core.specs.Known.{DeclaresKnown, decl_number};
+ghost use Rattle.samoa_invariant.specs.Settle.{is_quiet};
 ghost use Rattle.samoa_core.specs.Since.{cleared_comps};
 ghost use Rattle.samoa_core.specs.Places.{away, out_at, out_of, out_one};
 ghost use Rattle.samoa_core.specs.Scans.{ended_to, has_turn, is_idle};
 
-use crate::cells::{has_turn, read, weight, zeros};
+use crate::cells::{has_turn, read, zeros};
+use crate::forms::{may_release, weight};
 use crate::parts::{cells_of, decl_in, decl_number};
 use crate::slots::Slots;
 use samoa_bind::Tables;
@@ -71,7 +72,6 @@ impl<B: Micro> Core<B> {
     ) -> Result<Core<B>, NoMemory>
         requires in_range { IsInRange script.now }
         requires built { IsBuilt script.now }
-        requires declares { DeclaresKnown script.now }
         requires covers { Covers script.now stock }
         requires cells { need script.now ≤ cells }
         ensures { IfOk result (λ core. core ≡ opening_trace script.now cells) }
@@ -127,7 +127,6 @@ impl<B: Micro> Core<B> {
         ensures all { (state self.now).count ≡ length self.now.exts }
         ensures in_range { IsInRange self.now.script }
         ensures built { IsBuilt self.now.script }
-        ensures declares { DeclaresKnown self.now.script }
         ensures known { (k : ℕ) → k < length self.now.exts → IsExtOf self.now.script (ext_at self.now.exts k) }
         ensures cleared { cleared_comps self.now ≤ length self.now.exts }
         ensures past { (k : ℕ) → k < cleared_comps self.now → (state self.now).ended k ≡ true }
@@ -183,7 +182,7 @@ impl<B: Micro> Core<B> {
         requires first { 0 < comp }
         requires admitted { comp ≤ length self.now.exts }
         ensures decl { result.now ≡ (play self.now).decl (comp - 1) }
-        ensures set { IsSet result.now }
+        ensures known { IsDeclOf self.now.script result.now }
     {
         let number = decl_number(&self.script, &self.exts[comp as usize - 1]);
         &decl_in(&self.script, number).decl
@@ -233,6 +232,19 @@ impl<B: Micro> Core<B> {
         ensures { result ≡ is_idle ((state self.now).comp (comp - 1)) }
     {
         self.comps[(comp - 1 - self.first) as usize].is_over()
+    }
+
+    /// Whether a computation may be done with a microprotocol at which it has its turn.
+    pub(crate) fn is_quiet(&self, comp: u32, micro: u32) -> bool
+        requires kept { cleared_comps self.now < comp }
+        requires admitted { comp ≤ length self.now.exts }
+        ensures { result ≡ is_quiet ((play self.now).decl (comp - 1)) ((state self.now).table (comp - 1)) ((state self.now).comp (comp - 1)) micro }
+    {
+        may_release(
+            self.declaration(comp),
+            &self.comps[(comp - 1 - self.first) as usize],
+            micro,
+        )
     }
 
     /// The microprotocol and the moment of the next handler step of a computation, which may be out.

@@ -4,6 +4,7 @@
 mod admission;
 mod answers;
 mod cells;
+mod forms;
 mod kernel;
 mod moves;
 mod parts;

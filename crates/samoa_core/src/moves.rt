@@ -12,7 +12,7 @@ ghost use Rattle.samoa_core.specs.Turns.{HasCome, IsAway, IsNext, box_of};
 
 use crate::cells::note;
 use crate::kernel::Core;
-use crate::parts::take_in;
+use crate::parts::{decl_in, decl_number, raise, take_in};
 use crate::turn::{Ran, Turn};
 use samoa_micro::{Held, Micro};
 use samoa_model::{MicroId, Moment, Outcome, Step};
@@ -103,7 +103,7 @@ impl<B: Micro> Core<B> {
         let node = self.node(comp);
         let at = (comp - 1 - self.first) as usize;
         self.slots.put(node, micro, held);
-        take_in(
+        let ended = take_in(
             &mut self.comps,
             at,
             &self.script,
@@ -111,6 +111,16 @@ impl<B: Micro> Core<B> {
             node,
             outcome,
         );
+        if let Some(ended) = ended {
+            let number = decl_number(&self.script, &self.exts[comp as usize - 1]);
+            raise(
+                &decl_in(&self.script, number).decl,
+                &mut self.local,
+                self.script.micros.len(),
+                node,
+                ended,
+            );
+        }
         note(&mut self.journal, &mut self.promised, Step::Leave { comp });
     }
 

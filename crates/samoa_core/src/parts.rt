@@ -9,9 +9,10 @@ ghost use Rattle.samoa_calls.specs.Handed.{AreNamed, IsNamed};
 ghost use Rattle.samoa_core.specs.Turns.{IsReady, taken};
 ghost use Rattle.samoa_core.specs.Known.{decl_number as declaration_number};
 
+use crate::forms::raises;
 use samoa_bind::Tables;
 use samoa_calls::Comp;
-use samoa_model::{Cause, DeclDef, EventId, Ext, NodeId, Outcome, Script};
+use samoa_model::{Cause, Decl, DeclDef, EventId, Ext, MicroId, NodeId, Outcome, Script};
 
 /// The event that is called when a computation begins.
 pub(crate) fn root_of(script: &Script, cause: Cause) -> EventId
@@ -62,7 +63,7 @@ pub(crate) fn take_in(
     tables: &Tables,
     node: NodeId,
     outcome: Outcome,
-)
+) -> Option<MicroId>
     requires there { at < length comps.old.items }
     requires in_range { IsInRange script.now }
     requires built { IsBuilt script.now }
@@ -75,10 +76,16 @@ pub(crate) fn take_in(
     ensures named { (h : Held) → slice_get comps.old.items at ≡ Some h
         → AreNamed (first_table script.now) (taken script.now h outcome).comp.waiting }
 {
-    go_on(&mut comps[at], script, tables, node, outcome);
+    go_on(&mut comps[at], script, tables, node, outcome)
 }
 
-fn go_on(comp: &mut Comp, script: &Script, tables: &Tables, node: NodeId, outcome: Outcome)
+fn go_on(
+    comp: &mut Comp,
+    script: &Script,
+    tables: &Tables,
+    node: NodeId,
+    outcome: Outcome,
+) -> Option<MicroId>
     requires in_range { IsInRange script.now }
     requires built { IsBuilt script.now }
     requires tables { tables.now ≡ first_tables script.now }
@@ -89,5 +96,19 @@ fn go_on(comp: &mut Comp, script: &Script, tables: &Tables, node: NodeId, outcom
     ensures named { AreNamed (first_table script.now) comp.new.comp.waiting }
 {
     let decl = decl_in(script, comp.decl());
-    comp.take_outcome(&decl.decl, tables, node, 0, outcome);
+    comp.take_outcome(&decl.decl, tables, node, 0, outcome)
+}
+
+/// Raises the local version of a microprotocol at which a call was completed, where the declaration does so.
+pub(crate) fn raise(
+    decl: &Decl,
+    local: &mut Vec<u64>,
+    columns: usize,
+    node: NodeId,
+    micro: MicroId,
+)
+{
+    if raises(decl, micro) {
+        local[node.0 as usize * columns + micro.0 as usize] += 1;
+    }
 }

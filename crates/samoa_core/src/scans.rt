@@ -7,7 +7,8 @@ ghost use Rattle.samoa_core.specs.Since.{cleared_comps};
 ghost use Rattle.samoa_core.specs.Places.{away, out_at, out_of, out_one};
 ghost use Rattle.samoa_core.specs.Scans.{IsLater, IsStill, all_past, ended_to, ends, finished, is_past, may_end, may_release, released, releases, releases_of, settled, try_end, try_release, with_journal};
 
-use crate::cells::{has_turn, note, or_last, weight, write};
+use crate::cells::{has_turn, note, or_last, write};
+use crate::forms::weight;
 use crate::kernel::Core;
 use samoa_micro::Micro;
 use samoa_model::{NodeId, Step};
@@ -140,7 +141,7 @@ impl<B: Micro> Core<B> {
         let weight = weight(self.declaration(comp), micro);
         0 < weight
             && (has_turn(self.private(comp, micro), self.local(comp, micro), weight)
-                && self.is_idle(comp))
+                && self.is_quiet(comp, micro))
     }
 
     /// Makes a release that is due.

@@ -5,7 +5,8 @@ use Rattle.samoa_model.specs.Allowed.{leads, weight}
 use Rattle.samoa_serial.specs.Alone.{after, Machine}
 use Rattle.samoa_serial.proofs.Reach.{after-add}
 use Rattle.samoa_invariant.specs.Play.{Play, weight_at, version, rules, attempts, opened, point, NotAt, Never}
-use Rattle.samoa_invariant.specs.State.{Core, Leads, Here, Then, IsSafe, IsSettled, NoneEnters, IsLeastOpen, IsNextAt, CanRelease, CanEnd}
+use Rattle.samoa_model.specs.Paths.{Leads, Here, Then, IsSafe}
+use Rattle.samoa_invariant.specs.State.{Core, IsSettled, NoneEnters, IsLeastOpen, IsNextAt, CanRelease, CanEnd}
 use Rattle.samoa_invariant.specs.Inv.{Invariant}
 use Rattle.samoa_invariant.proofs.Versions.{same_or_not, weight_at-is, weight_at-else}
 use Rattle.samoa_invariant.proofs.Points.{Kept, never_kept, some_or_none}

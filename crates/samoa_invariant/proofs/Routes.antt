@@ -13,7 +13,8 @@ use Rattle.samoa_serial.specs.Calls.{Computation}
 use Rattle.samoa_model.specs.Scripts.{resolve, Table}
 use Rattle.samoa_serial.specs.World.{attempts_of}
 use Rattle.samoa_invariant.specs.Play.{drive, Never}
-use Rattle.samoa_invariant.specs.State.{Leads, Here, Then, IsSafe, AllSafe, ActiveSafe, WaitingSafe, RouteQuiet}
+use Rattle.samoa_model.specs.Paths.{Leads, Here, Then, IsSafe}
+use Rattle.samoa_invariant.specs.State.{AllSafe, ActiveSafe, WaitingSafe, RouteQuiet}
 use Rattle.samoa_invariant.proofs.Closed.{Of, IsClosed, closed_drive}
 use Rattle.samoa_invariant.proofs.Accepts.{AllPass, AllActive, AllHandlers, IsAccepted, is_accepted, begun_all, none_unless, passed_form, next_is_head}
 

@@ -4,7 +4,7 @@ use Rattle.std.specs.List.{list_any}
 use Rattle.std.proofs.lemmas.Bool.{eqb-true, eq-eqb}
 use Rattle.samoa_model.specs.declared.ids.HandlerId.{HandlerId}
 use Rattle.samoa_model.specs.Allowed.{leads, same_handler}
-use Rattle.samoa_invariant.specs.State.{Leads, Here, Then, IsSafe}
+use Rattle.samoa_model.specs.Paths.{Leads, Here, Then, IsSafe}
 use Rattle.samoa_invariant.specs.Walk.{found, ends_of, grown, walked, reach, none_at, is_safe}
 use Rattle.samoa_invariant.proofs.Further.{IsWalked, walked_safe, safe_walked}
 

@@ -12,7 +12,8 @@ use Rattle.samoa_serial.specs.Calls.{Computation, start, take_outcome}
 use Rattle.samoa_serial.specs.Alone.{next_step}
 use Rattle.samoa_model.specs.Scripts.{resolve, Table}
 use Rattle.samoa_serial.specs.World.{attempts_of}
-use Rattle.samoa_model.specs.Allowed.{leads, weight}
+use Rattle.samoa_model.specs.Allowed.{weight}
+use Rattle.samoa_model.specs.Paths.{IsSafe}
 use Rattle.samoa_invariant.specs.Slots.{At, put_at}
 use Rattle.samoa_invariant.specs.Play.{Play, turns, weight_at, is_bound, ends_call, IsIdle}
 
@@ -37,15 +38,6 @@ pub record Core : Type 0 where
 -- a function with another value at one place
 abbrev pub put : {A : Type 0} → (ℕ → A) → ℕ → A → ℕ → A
 put f k new j = if j == k then new else f j
-
--- a vertex that routes lead to, from a handler
-pub data Leads (vertices : List HandlerId) (edges : List (ℕ × ℕ)) (a : HandlerId) : HandlerId → Type 0 where
-  Here : Leads vertices edges a a
-  Then : (b c : HandlerId) → Leads vertices edges a b → leads vertices [] edges (Some b) c ≡ true → Leads vertices edges a c
-
--- no route leads from the handler to p, and it isn't at p itself
-abbrev pub IsSafe : List HandlerId → List (ℕ × ℕ) → ℕ → HandlerId → Type 0
-IsSafe vertices edges p h = (u : HandlerId) → Leads vertices edges h u → u.micro.0 ≢ p
 
 -- no route leads from these handlers to p
 abbrev pub AllSafe : List HandlerId → List (ℕ × ℕ) → ℕ → List HandlerId → Type 0

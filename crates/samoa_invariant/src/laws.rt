@@ -3,9 +3,10 @@ ghost use Rattle.std.specs.Prelude.{◌≡◌, ℕ, ◌<◌, ◌≤◌, ◌⊎�
 ghost use Rattle.samoa_model.specs.declared.record.Ext.{Ext};
 ghost use Rattle.samoa_model.specs.declared.ids.HandlerId.{HandlerId};
 ghost use Rattle.samoa_model.specs.declared.script.Script.{Script};
+ghost use Rattle.samoa_model.specs.Paths.{IsSafe};
 ghost use Rattle.samoa_serial.specs.SerialRun.{serial};
 ghost use Rattle.samoa_invariant.specs.Play.{Agree, Play, stood};
-ghost use Rattle.samoa_invariant.specs.State.{AllEnded, CanRelease, Core, GoesOnTo, IsEnabled, IsForward, IsLeastOpen, IsPicked, IsSafe, IsSettled, NothingOut, Pass, Reached, Step, WholeRun, cells_to, left, made_by, pick, slots};
+ghost use Rattle.samoa_invariant.specs.State.{AllEnded, CanRelease, Core, GoesOnTo, IsEnabled, IsForward, IsLeastOpen, IsPicked, IsSettled, NothingOut, Pass, Reached, Step, WholeRun, cells_to, left, made_by, pick, slots};
 ghost use Rattle.samoa_invariant.specs.Parts.{SixParts};
 ghost use Rattle.samoa_invariant.specs.Settle.{settle};
 ghost use Rattle.samoa_invariant.specs.Walk.{is_safe};

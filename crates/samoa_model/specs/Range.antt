@@ -1,6 +1,6 @@
 -- Scripts whose numbers name what is there, and whose lists keep to their limits.
-use Rattle.std.specs.Prelude.{◌≡◌, ◌<◌, ◌≤◌, ◌*◌, ℕ, List, [], length}
-use Rattle.std.specs.List.{All}
+use Rattle.std.specs.Prelude.{◌≡◌, ◌<◌, ◌≤◌, ◌*◌, ℕ, List, [], length, map}
+use Rattle.std.specs.List.{All, AllPairs}
 use Rattle.samoa_model.specs.declared.ids.EventId.{EventId}
 use Rattle.samoa_model.specs.declared.ids.ChangeId.{ChangeId}
 use Rattle.samoa_model.specs.declared.ids.HandlerId.{HandlerId}
@@ -52,6 +52,30 @@ pub record IsDoInRange (script : Script) (item : DoDef) : Type 0 where
   pub node : item.node.0 < script.nodes
   pub cause : IsCauseOf script item.cause
 
+abbrev pub HasNoneTwice : List ℕ → Type 0
+HasNoneTwice ps = AllPairs (λ p q. p ≡ q → ⊥) ps
+
+-- a set names microprotocols of the script, none twice
+pub record IsSetOf (script : Script) (micros : List ℕ) : Type 0 where
+  pub known : All (λ p. p < length script.micros) micros
+  pub apart : HasNoneTwice micros
+
+-- a route's vertices are at most 32 handlers of the script, and its roots and edges are among them
+pub record IsRouteOf (script : Script) (vertices : List HandlerId) (roots : List ℕ) (edges : List (ℕ × ℕ)) : Type 0 where
+  pub few : length vertices ≤ 32
+  pub known : All (λ (h : HandlerId). h.micro.0 < length script.micros) vertices
+  pub first : All (λ r. r < length vertices) roots
+  pub ends : All (λ e. (e.0 < length vertices) × (e.1 < length vertices)) edges
+
+-- what a declaration allows is of the script, and a bound is from 1 to 256
+abbrev pub IsDeclOf : Script → Decl → Type 0
+IsDeclOf script (Decl.Set micros) = IsSetOf script micros
+IsDeclOf script (Decl.Bound bounds) = IsSetOf script (map (λ (b : ℕ × ℕ). b.0) bounds) × All (λ b. (1 ≤ b.1) × (b.1 ≤ 256)) bounds
+IsDeclOf script (Decl.Route vertices roots edges) = IsRouteOf script vertices roots edges
+
+abbrev pub HasDecls : Script → Type 0
+HasDecls script = All (λ (d : DeclDef). IsDeclOf script d.decl) script.decls
+
 abbrev pub HasBudget : DeclDef → Type 0
 HasBudget decl = (1 ≤ decl.budget) × (decl.budget ≤ 256)
 
@@ -64,6 +88,7 @@ pub record IsInRange (script : Script) : Type 0 where
   pub few_micros : length script.micros ≤ 24
   pub micros : All (IsMicroInRange script) script.micros
   pub few_decls : length script.decls ≤ 64
+  pub decls : HasDecls script
   pub budgets : All HasBudget script.decls
   pub some_event : 1 ≤ length script.events
   pub few_events : length script.events ≤ 64
@@ -84,7 +109,6 @@ IsSet (Decl.Set micros) = Unit {0}
 IsSet (Decl.Bound bounds) = ⊥
 IsSet (Decl.Route vertices roots edges) = ⊥
 
--- a script of the parts that can run by now: its declarations are sets, and no binding changes
+-- a script of the parts that can run by now: no binding changes
 pub record IsBuilt (script : Script) : Type 0 where
-  pub sets : All (λ (d : DeclDef). IsSet d.decl) script.decls
   pub unchanging : script.changes ≡ []

@@ -1,14 +1,11 @@
 -- What a script keeps to besides its ranges.
-use Rattle.std.specs.Prelude.{◌≡◌, ◌≤◌, ◌<◌, ◌*◌, ℕ, true, List, length, map, count_by}
-use Rattle.std.specs.List.{All, AllPairs}
-use Rattle.samoa_model.specs.declared.ids.HandlerId.{HandlerId}
+use Rattle.std.specs.Prelude.{◌≡◌, ◌≤◌, ◌<◌, ◌*◌, ℕ, true, List, length, count_by}
+use Rattle.std.specs.List.{All}
 use Rattle.samoa_model.specs.declared.setup.Kind.{Kind}
 use Rattle.samoa_model.specs.declared.setup.Instr.{Instr}
 use Rattle.samoa_model.specs.contracts.setup.KindPartialEq.TheImpl.{ghosts}
 use Rattle.samoa_model.specs.declared.script.CodeDef.{CodeDef}
 use Rattle.samoa_model.specs.declared.script.MicroDef.{MicroDef}
-use Rattle.samoa_model.specs.declared.script.Decl.{Decl}
-use Rattle.samoa_model.specs.declared.script.DeclDef.{DeclDef}
 use Rattle.samoa_model.specs.declared.script.LossDef.{LossDef}
 use Rattle.samoa_model.specs.declared.script.CrashDef.{CrashDef}
 use Rattle.samoa_model.specs.declared.script.Script.{Script}
@@ -33,30 +30,6 @@ HasPorts script = All (λ (m : MicroDef). ports_needed m.kind ≤ length m.ports
 -- the nodes together have at most 32 microprotocols of a kind
 abbrev pub HasFewOfEach : Script → Type 0
 HasFewOfEach script = (kind : Kind) → script.nodes * count_by (λ (m : MicroDef). ghosts.eq m.kind kind) script.micros ≤ 32
-
-abbrev pub HasNoneTwice : List ℕ → Type 0
-HasNoneTwice ps = AllPairs (λ p q. p ≡ q → ⊥) ps
-
--- a set names microprotocols of the script, none twice
-pub record IsSetOf (script : Script) (micros : List ℕ) : Type 0 where
-  pub known : All (λ p. p < length script.micros) micros
-  pub apart : HasNoneTwice micros
-
--- a route's vertices are at most 32 handlers of the script, and its roots and edges are among them
-pub record IsRouteOf (script : Script) (vertices : List HandlerId) (roots : List ℕ) (edges : List (ℕ × ℕ)) : Type 0 where
-  pub few : length vertices ≤ 32
-  pub known : All (λ (h : HandlerId). h.micro.0 < length script.micros) vertices
-  pub first : All (λ r. r < length vertices) roots
-  pub ends : All (λ e. (e.0 < length vertices) × (e.1 < length vertices)) edges
-
--- what a declaration allows is of the script, and a bound is from 1 to 256
-abbrev pub IsDeclOf : Script → Decl → Type 0
-IsDeclOf script (Decl.Set micros) = IsSetOf script micros
-IsDeclOf script (Decl.Bound bounds) = IsSetOf script (map (λ (b : ℕ × ℕ). b.0) bounds) × All (λ b. (1 ≤ b.1) × (b.1 ≤ 256)) bounds
-IsDeclOf script (Decl.Route vertices roots edges) = IsRouteOf script vertices roots edges
-
-abbrev pub HasDecls : Script → Type 0
-HasDecls script = All (λ (d : DeclDef). IsDeclOf script d.decl) script.decls
 
 -- losses and crashes are of nodes of the script
 abbrev pub IsLossOf : Script → LossDef → Type 0

@@ -9,8 +9,6 @@ use Rattle.samoa_model.specs.declared.record.Cause.{Cause}
 use Rattle.samoa_model.specs.declared.record.Cause.TheVariants as causes
 use Rattle.samoa_model.specs.declared.script.CodeDef.{CodeDef}
 use Rattle.samoa_model.specs.declared.script.MicroDef.{MicroDef}
-use Rattle.samoa_model.specs.declared.script.Decl.{Decl}
-use Rattle.samoa_model.specs.declared.script.DeclDef.{DeclDef}
 use Rattle.samoa_model.specs.declared.script.DoDef.{DoDef}
 use Rattle.samoa_model.specs.declared.script.Script.{Script}
 
@@ -23,10 +21,6 @@ abbrev pub stays : Instr → Bool
 stays (Send s port k) = false
 stays (Change c k) = false
 stays _ = true
-
-abbrev pub is_set : Decl → Bool
-is_set (Decl.Set micros) = true
-is_set _ = false
 
 abbrev pub is_event : Cause → Bool
 is_event (causes.Event event) = true
@@ -42,13 +36,12 @@ is_built_code handler = list_all stays handler.code
 abbrev pub is_built_micro : MicroDef → Bool
 is_built_micro micro = is_scripted micro.kind && list_all is_built_code micro.handlers
 
--- one node, scripted microprotocols alone, sets alone, and no messages, changes, rebindings, losses or crashes
+-- one node, scripted microprotocols alone, and no messages, changes, rebindings, losses or crashes
 unfoldable pub is_built : Script → Bool
 is_built script =
     (script.nodes == 1)
     && (list_all is_built_micro script.micros
-    && (list_all (λ (d : DeclDef). is_set d.decl) script.decls
     && (is_none script.changes
     && (list_all (λ (item : DoDef). is_event item.cause) script.does
     && (is_none script.losses
-    && is_none script.crashes)))))
+    && is_none script.crashes))))

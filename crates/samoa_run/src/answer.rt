@@ -4,7 +4,6 @@ ghost use Rattle.samoa_model.specs.Range.{IsInRange};
 ghost use Rattle.samoa_model.specs.declared.setup.Kind.TheVariants.{Prog};
 ghost use Rattle.samoa_ends.specs.Causes.{Rose};
 ghost use Rattle.samoa_micro.specs.Covers.{count_of};
-ghost use Rattle.samoa_core.specs.Known.{DeclaresKnown};
 ghost use Rattle.samoa_run.specs.Due.{due_status, due_text, ended_with, fault_line as line_of, few_cells, output};
 ghost use Rattle.samoa_run.specs.Serving.{Answers};
 
@@ -31,7 +30,6 @@ pub fn treat<K: Sink, B: Micro>(
     sink: &mut K,
 ) -> u8
     requires in_range { IsInRange script.now }
-    requires declares { DeclaresKnown script.now }
     requires stock { 32 ≤ count_of stock Prog }
     ensures written { Answers (due_status order (Ok script.now)) (due_text order (Ok script.now)) (K.written sink.old) (K.written sink.new) result }
     ensures statuses { (result ≡ due_status order (Ok script.now)) ⊎ (result ≡ 5) ⊎ (result ≡ 6) }
@@ -54,7 +52,6 @@ fn run_in_parts<K: Sink, B: Micro>(
     sink: &mut K,
 ) -> u8
     requires in_range { IsInRange script.now }
-    requires declares { DeclaresKnown script.now }
     requires stock { 32 ≤ count_of stock Prog }
     ensures written { Answers (due_status (Order.Run cells calls) (Ok script.now)) (due_text (Order.Run cells calls) (Ok script.now)) (K.written sink.old) (K.written sink.new) result }
     ensures statuses { (result ≡ due_status (Order.Run cells calls) (Ok script.now)) ⊎ (result ≡ 5) ⊎ (result ≡ 6) }
@@ -79,7 +76,6 @@ fn run_one_by_one<K: Sink, B: Micro>(
     sink: &mut K,
 ) -> u8
     requires in_range { IsInRange script.now }
-    requires declares { DeclaresKnown script.now }
     requires stock { 32 ≤ count_of stock Prog }
     ensures written { Answers (due_status (Order.Serial calls) (Ok script.now)) (due_text (Order.Serial calls) (Ok script.now)) (K.written sink.old) (K.written sink.new) result }
     ensures statuses { (result ≡ due_status (Order.Serial calls) (Ok script.now)) ⊎ (result ≡ 5) ⊎ (result ≡ 6) }

@@ -1,19 +1,17 @@
 //! Which scripts can run by now.
 ghost use Rattle.std.specs.Prelude.{◌≡◌};
 ghost use Rattle.std.specs.List.{list_all};
-ghost use Rattle.samoa_run.specs.Built.{is_built, is_built_micro as built_micro, is_built_code as built_code, stays as is_staying, is_none as none, is_set as set, is_event as event, is_scripted as scripted};
+ghost use Rattle.samoa_run.specs.Built.{is_built, is_built_micro as built_micro, is_built_code as built_code, stays as is_staying, is_none as none, is_event as event, is_scripted as scripted};
 
-use samoa_model::{Cause, CodeDef, Decl, DeclDef, DoDef, Instr, Kind, Listed, MicroDef, Script};
+use samoa_model::{Cause, CodeDef, DoDef, Instr, Kind, Listed, MicroDef, Script};
 
-/// Whether a script can run by now: false exactly where it has a bound, a route, a change, a rebinding, more than one
-/// node, an instruction `send` or `change`, a loss, a crash, or a kind other than `prog`.
+/// Whether a script can run by now: false exactly where it has a change, a rebinding, more than one node, an instruction `send` or `change`, a loss, a crash, or a kind other than `prog`.
 #[tactic(auto, unfolding(crate::specs::Built::is_built))]
 pub fn built(script: &Script) -> bool
     ensures { result ≡ is_built script.now }
 {
     script.nodes == 1
         && are_built(script.micros.as_slice())
-        && are_sets(script.decls.as_slice())
         && is_none(&script.changes)
         && are_events(script.does.as_slice())
         && is_none(&script.losses)
@@ -55,18 +53,6 @@ fn is_scripted(kind: Kind) -> bool
     ensures { result ≡ scripted kind }
 {
     matches!(kind, Kind::Prog)
-}
-
-fn are_sets(decls: &[DeclDef]) -> bool
-    ensures { result ≡ list_all (λ d. set d.decl) decls.now }
-{
-    decls.iter().all(|decl| is_set(&decl.decl))
-}
-
-fn is_set(decl: &Decl) -> bool
-    ensures { result ≡ set decl.now }
-{
-    matches!(decl, Decl::Set { .. })
 }
 
 fn are_events(does: &[DoDef]) -> bool

@@ -7,7 +7,6 @@ ghost use Rattle.samoa_serial.specs.History.{ext_of, history};
 ghost use Rattle.samoa_serial.specs.Report.{report};
 ghost use Rattle.samoa_ends.specs.Pieces.{AppendsPrefix};
 ghost use Rattle.samoa_micro.specs.Covers.{Covers};
-ghost use Rattle.samoa_core.specs.Known.{DeclaresKnown};
 ghost use Rattle.samoa_run.specs.Running.{HasRun, later_text, closing_text};
 ghost use Rattle.samoa_run.specs.Schedule.{IsByTick};
 ghost use Rattle.samoa_run.specs.Serving.{StopsFor};
@@ -45,7 +44,6 @@ impl<B: Micro> Run<B> {
     ) -> Result<Run<B>, NoMemory>
         requires in_range { IsInRange script.now }
         requires built { IsBuilt script.now }
-        requires declares { DeclaresKnown script.now }
         requires covers { Covers script.now stock }
         requires cells { need script.now ≤ cells }
         ensures { IfOk result (λ run. HasRun script.now [] run.core run.totals) }
@@ -239,7 +237,6 @@ pub fn run_script<B: Micro, K: Sink>(
 ) -> Result<Core<B>, Stop>
     requires in_range { IsInRange script.now }
     requires built { IsBuilt script.now }
-    requires declares { DeclaresKnown script.now }
     requires covers { Covers script.now stock }
     requires cells { need script.now ≤ cells }
     ensures all { OnOk result (Appends (K.written sink.old) (K.written sink.new) (report script.now calls)) }
