@@ -9,8 +9,8 @@ use Rattle.samoa_serial.specs.Calls.{Computation}
 pub record Held : Type 0 where
   pub decl : ℕ
   pub comp : Computation
-  pub waiting_handlers : List HandlerId
   pub open comp use *
+  pub waiting_handlers : List HandlerId
 
 -- the handlers of waiting calls by a table, call by call
 abbrev pub handlers_of : Table → List Waiting → List HandlerId
