@@ -4,17 +4,17 @@ ghost use Rattle.samoa_model.specs.Cells.{need};
 ghost use Rattle.samoa_model.specs.Range.{IsBuilt, IsInRange};
 ghost use Rattle.samoa_model.specs.declared.script.Decl.{Decl};
 ghost use Rattle.samoa_micro.specs.Covers.{Covers};
-ghost use Rattle.samoa_core.specs.Known.{DeclaresKnown};
 ghost use Rattle.samoa_core.specs.Scans.{IsStill};
 ghost use Rattle.samoa_invariant.specs.State as model;
 ghost use Rattle.samoa_invariant.specs.Runs.{play, state};
 
+use crate::batch::step;
 use crate::{Batch, drain};
 use samoa_core::Core;
 use samoa_micro::Stock;
 use samoa_model::{
-    Cause, Decl, DeclDef, EventDef, EventId, Ext, HandlerId, Kind, Listed, MicroDef, MicroId, Name,
-    NoMemory, NodeId, Script, Step, Words,
+    Cause, CodeDef, Decl, DeclDef, EventDef, EventId, Ext, HandlerId, Instr, Kind, Listed, MicroDef,
+    MicroId, Name, NoMemory, NodeId, Script, Step, Words,
 };
 use samoa_prog::Prog;
 use std::alloc::Global;
@@ -31,22 +31,31 @@ const SECOND: HandlerId = HandlerId {
     index: 0,
 };
 
-/// A microprotocol whose handlers are done at once.
-fn micro(alloc: Global, name: &str) -> MicroDef
+/// A microprotocol with these ports and one handler.
+fn micro(
+    alloc: Global,
+    name: &str,
+    ports: Vec<EventId>,
+    code: Vec<Instr>,
+) -> Result<MicroDef, NoMemory>
     requires some { 0 < length name.now }
     requires few { length name.now ≤ 33 }
-    ensures ports { result.ports ≡ [] }
-    ensures changes { result.changes ≡ [] }
-    ensures handlers { result.handlers ≡ [] }
+    ensures ports { IfOk result (λ micro. micro.ports ≡ ports.items) }
+    ensures changes { IfOk result (λ micro. micro.changes ≡ []) }
+    ensures handlers { IfOk result (λ micro. length micro.handlers ≡ 1) }
 {
-    MicroDef {
+    let handler = CodeDef {
+        name: Name::new("h"),
+        code: Listed::from_vec(code),
+    };
+    Ok(MicroDef {
         name: Name::new(name),
         kind: Kind::Prog,
         nums: Words::new(),
-        ports: Listed::from_vec(Vec::new(alloc)),
+        ports: Listed::from_vec(ports),
         changes: Listed::from_vec(Vec::new(alloc)),
-        handlers: Listed::from_vec(Vec::new(alloc)),
-    }
+        handlers: Listed::from_vec(Vec::from_array(alloc, [handler])?),
+    })
 }
 
 fn set_of(name: &str, micros: Vec<u32>) -> DeclDef
@@ -64,6 +73,21 @@ fn set_of(name: &str, micros: Vec<u32>) -> DeclDef
     }
 }
 
+fn bound_of(name: &str, bounds: Vec<(u32, u32)>) -> DeclDef
+    requires some { 0 < length name.now }
+    requires few { length name.now ≤ 33 }
+    ensures budget { result.budget ≡ 32 }
+    ensures decl { result.decl ≡ Decl.Bound bounds.items }
+{
+    DeclDef {
+        name: Name::new(name),
+        budget: 32,
+        decl: Decl::Bound {
+            bounds: Listed::from_vec(bounds),
+        },
+    }
+}
+
 fn event(name: &str, decl: u32, handlers: Vec<HandlerId>) -> EventDef
     requires some { 0 < length name.now }
     requires few { length name.now ≤ 33 }
@@ -77,25 +101,23 @@ fn event(name: &str, decl: u32, handlers: Vec<HandlerId>) -> EventDef
     }
 }
 
-/// One node with the microprotocols `a` and `b`, each with an event of its own.
-fn two_sets(alloc: Global) -> Result<Script, NoMemory>
-    ensures range { IfOk result IsInRange }
-    ensures built { IfOk result IsBuilt }
-    ensures declares { IfOk result DeclaresKnown }
-    ensures nodes { IfOk result (λ script. script.nodes ≡ 1) }
-    ensures events { IfOk result (λ script. length script.events ≡ 2) }
-    ensures need { IfOk result (λ script. need script ≡ 528) }
+/// One node with the microprotocols `a`, whose handler has this code and may call that of `b`, and `b`, each with an
+/// event of its own under one of these declarations.
+fn script_of(
+    alloc: Global,
+    code: Vec<Instr>,
+    first: DeclDef,
+    second: DeclDef,
+) -> Result<Script, NoMemory>
 {
-    let micros = [micro(alloc, "a"), micro(alloc, "b")];
-    let first = Vec::from_array(alloc, [FIRST])?;
-    let second = Vec::from_array(alloc, [SECOND])?;
-    let events = [event("ag", 0, first), event("bg", 1, second)];
-    let first = Vec::from_array(alloc, [0])?;
-    let second = Vec::from_array(alloc, [1])?;
-    let decls = [set_of("sa", first), set_of("sb", second)];
-    let micros = Vec::from_array(alloc, micros)?;
-    let decls = Vec::from_array(alloc, decls)?;
-    let events = Vec::from_array(alloc, events)?;
+    let ports = Vec::from_array(alloc, [EventId(1)])?;
+    let a = micro(alloc, "a", ports, code)?;
+    let b = micro(alloc, "b", Vec::new(alloc), Vec::new(alloc))?;
+    let micros = Vec::from_array(alloc, [a, b])?;
+    let at_a = Vec::from_array(alloc, [FIRST])?;
+    let at_b = Vec::from_array(alloc, [SECOND])?;
+    let events = Vec::from_array(alloc, [event("tri", 0, at_a), event("bg", 1, at_b)])?;
+    let decls = Vec::from_array(alloc, [first, second])?;
     Ok(Script {
         nodes: 1,
         ticks: 1,
@@ -109,6 +131,33 @@ fn two_sets(alloc: Global) -> Result<Script, NoMemory>
     })
 }
 
+/// Each microprotocol in a set of its own.
+fn two_sets(alloc: Global) -> Result<Script, NoMemory>
+    ensures range { IfOk result IsInRange }
+    ensures built { IfOk result IsBuilt }
+    ensures nodes { IfOk result (λ script. script.nodes ≡ 1) }
+    ensures events { IfOk result (λ script. length script.events ≡ 2) }
+    ensures need { IfOk result (λ script. need script ≡ 528) }
+{
+    let first = set_of("sa", Vec::from_array(alloc, [0])?);
+    let second = set_of("sb", Vec::from_array(alloc, [1])?);
+    script_of(alloc, Vec::new(alloc), first, second)
+}
+
+/// A bound of one call at `a`, which calls `b` three times, and two at `b`; and a set of `b`.
+fn bound_and_set(alloc: Global) -> Result<Script, NoMemory>
+    ensures range { IfOk result IsInRange }
+    ensures built { IfOk result IsBuilt }
+    ensures nodes { IfOk result (λ script. script.nodes ≡ 1) }
+    ensures events { IfOk result (λ script. length script.events ≡ 2) }
+    ensures need { IfOk result (λ script. need script ≡ 528) }
+{
+    let calls = Vec::from_array(alloc, [Instr::Call { port: 0, k: 0 }; 3])?;
+    let first = bound_of("b12", Vec::from_array(alloc, [(0, 1), (1, 2)])?);
+    let second = set_of("sb", Vec::from_array(alloc, [1])?);
+    script_of(alloc, calls, first, second)
+}
+
 fn covered(script: &Script, stock: &Stock<Prog>) -> Result<(), Fail>
     ensures { OnOk result (Covers script.now stock.now) }
 {
@@ -119,17 +168,26 @@ fn covered(script: &Script, stock: &Stock<Prog>) -> Result<(), Fail>
     }
 }
 
-/// A core in which these events are admitted together.
-fn with_two(alloc: Global, rt: &impl Abort, events: (u32, u32)) -> Result<Core<Prog>, Fail>
+/// A core for a script in which these events are admitted together.
+fn with_two(
+    alloc: Global,
+    rt: &impl Abort,
+    script: &Script,
+    events: (u32, u32),
+) -> Result<Core<Prog>, Fail>
+    requires range { IsInRange script.now }
+    requires built { IsBuilt script.now }
+    requires nodes { script.now.nodes ≡ 1 }
+    requires events { length script.now.events ≡ 2 }
+    requires need { need script.now ≡ 528 }
     requires first { events.0 < 2 }
     requires second { events.1 < 2 }
     ensures settled { IfOk result (λ core. model.IsSettled (play core) (state core)) }
     ensures home { IfOk result (λ core. model.NothingOut (state core)) }
 {
-    let script = two_sets(alloc)?;
     let stock = Stock::new(Vec::from_array(alloc, [Prog::new(alloc), Prog::new(alloc)])?);
-    covered(&script, &stock)?;
-    let mut core = Core::new(alloc, &script, stock, 2000)?;
+    covered(script, &stock)?;
+    let mut core = Core::new(alloc, script, stock, 2000)?;
     admit_one(alloc, rt, &mut core, events.0)?;
     admit_one(alloc, rt, &mut core, events.1)?;
     core.settle();
@@ -160,7 +218,7 @@ fn admit_one(alloc: Global, rt: &impl Abort, core: &mut Core<Prog>, event: u32) 
 
 #[test]
 fn drains_two(rt: HostRuntime) -> Result<(), Fail> {
-    let mut core = with_two(rt.alloc(), &rt, (0, 1))?;
+    let mut core = with_two(rt.alloc(), &rt, &two_sets(rt.alloc())?, (0, 1))?;
     assert_eq!(rt; drain(rt.alloc(), &mut core), Batch::Done);
     let steps = [
         Step::Admit { comp: 1 },
@@ -182,7 +240,7 @@ fn drains_two(rt: HostRuntime) -> Result<(), Fail> {
 fn next_of_two(alloc: Global, rt: &impl Abort, second: u32) -> Result<Option<u32>, Fail>
     requires { second < 2 }
 {
-    let mut core = with_two(alloc, rt, (0, second))?;
+    let mut core = with_two(alloc, rt, &two_sets(alloc)?, (0, second))?;
     if let Some(comp) = core.pick() {
         let _turn = core.enter(comp);
     }
@@ -193,5 +251,45 @@ fn next_of_two(alloc: Global, rt: &impl Abort, second: u32) -> Result<Option<u32
 fn waits_for_its_turn(rt: HostRuntime) -> Result<(), Fail> {
     assert_eq!(rt; next_of_two(rt.alloc(), &rt, 1)?, Some(2));
     assert_eq!(rt; next_of_two(rt.alloc(), &rt, 0)?, None);
+    Ok(())
+}
+
+/// One turn of the least computation that may begin one.
+fn next_turn(alloc: Global, core: &mut Core<Prog>)
+    requires home { model.NothingOut (state core.old) }
+    ensures home { model.NothingOut (state core.new) }
+{
+    if let Some(comp) = core.pick() {
+        step(alloc, core, comp);
+    }
+}
+
+/// The bound's two calls at `b` are completed, so `b` is handed on while the computation is still out at `a`.
+#[test]
+fn hands_on_within_a_leave(rt: HostRuntime) -> Result<(), Fail> {
+    let alloc = rt.alloc();
+    let mut core = with_two(alloc, &rt, &bound_and_set(alloc)?, (0, 1))?;
+    next_turn(alloc, &mut core);
+    next_turn(alloc, &mut core);
+    next_turn(alloc, &mut core);
+    next_turn(alloc, &mut core);
+    if let Some(comp) = core.pick() {
+        let _turn = core.enter(comp);
+    }
+    assert_eq!(rt; core.pick(), Some(2));
+    let steps = [
+        Step::Admit { comp: 1 },
+        Step::Admit { comp: 2 },
+        Step::Enter { comp: 1, micro: 0 },
+        Step::Leave { comp: 1 },
+        Step::Enter { comp: 1, micro: 1 },
+        Step::Leave { comp: 1 },
+        Step::Enter { comp: 1, micro: 0 },
+        Step::Leave { comp: 1 },
+        Step::Enter { comp: 1, micro: 1 },
+        Step::Leave { comp: 1 },
+        Step::Enter { comp: 1, micro: 0 },
+    ];
+    assert_eq!(rt; core.journal(), steps.as_slice());
     Ok(())
 }
