@@ -1,3 +1,5 @@
+pub mod Counts
+pub mod Listed
 pub mod Made
 pub mod Named
 pub mod Nexts

@@ -1,7 +1,6 @@
 -- The waiting calls name events of the table.
-use Rattle.std.proofs.Common.{arith, zero, suc, ◌≡◌, ℕ, ◌<◌, refl, ap, sym, ◌∙◌, ◌∷◌, [], ◌++◌, List, length, Option, Some, None, All}
+use Rattle.std.proofs.Common.{arith, zero, suc, ℕ, ◌<◌, ◌∷◌, [], List, length, Option, Some}
 use Rattle.std.proofs.lemmas.List.Elements.{All-nil, All-push}
-use Rattle.samoa_model.specs.declared.ids.EventId.{EventId}
 use Rattle.samoa_model.specs.declared.handler.Reply.{Reply}
 use Rattle.samoa_model.specs.declared.handler.Outcome.{Outcome}
 use Rattle.samoa_model.specs.declared.record.Entry.{Entry}

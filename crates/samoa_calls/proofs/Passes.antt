@@ -1,5 +1,5 @@
 -- The handlers of an attempt are tested one after another.
-use Rattle.std.proofs.Common.{arith, ◌≤◌, ◌<◌, ◌+◌, suc, zero, take, drop, get_or, drop-cons, drop_of_length-le, add-one, ◌≡◌, ℕ, Bool, false, refl, sym, ap, ◌∙◌, ◌∷◌, [], ◌++◌, List, length, Option, Some, None, ◌==◌}
+use Rattle.std.proofs.Common.{arith, ◌≤◌, ◌<◌, ◌+◌, suc, zero, take, drop, get_or, drop-cons, drop_of_length-le, add-one, ◌≡◌, ℕ, Bool, false, refl, sym, ap, ◌∙◌, ◌∷◌, [], List, length, Option, Some, None, ◌==◌}
 use Rattle.std.proofs.lemmas.List.{take_more}
 use Rattle.samoa_model.specs.declared.record.Entry.{Entry}
 use Rattle.samoa_model.specs.declared.script.Decl.{Decl}

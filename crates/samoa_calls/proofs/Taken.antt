@@ -55,10 +55,6 @@ pub not_empty : (xs : List Active) (n : ℕ) (b : Bool) → n ≡ length xs → 
 not_empty [] n b len e f = let empty : b ≡ true = e ∙ ap (λ (k : ℕ). k == 0) len in cc
 not_empty (x ∷ xs) n b len e f = rw length-reverse (omega arith)
 
-pub handed-waiting : (books : Books) (answer : Option Ending) (rest : List Active) (r : Reply) → (handed books answer rest r).waiting ≡ books.waiting
-handed-waiting books answer [] r = refl
-handed-waiting books answer (a ∷ rest) r = refl
-
 pub handed-some : (active : List Active) (books : Books) (answer : Option Ending) (rest : List Active) (b : Active) (bs : List Active) (r : Reply)
     → rest ≡ b ∷ bs → active ≡ given b.call b.due r ∷ bs → record { active = active; books = books; answer = answer } ≡ handed books answer rest r
 handed-some active books answer rest b bs r e is =

@@ -5,7 +5,13 @@ use Rattle.samoa_model.specs.Scripts.{Table, resolve}
 use Rattle.samoa_serial.specs.declared.call.Waiting.{Waiting}
 use Rattle.samoa_serial.specs.Calls.{Computation}
 
--- beside the calls, the handlers of those that wait
+-- a computation, and the handlers of its calls that wait
+pub record Calling : Type 0 where
+  pub comp : Computation
+  pub open comp use *
+  pub waiting_handlers : List HandlerId
+
+-- the same, with the number of its declaration
 pub record Held : Type 0 where
   pub decl : ℕ
   pub comp : Computation

@@ -1,11 +1,11 @@
 //! An attempt to call an event's handlers.
-ghost use Rattle.std.specs.Prelude.{◌≡◌, ◌+◌, ◌^◌, ◌<◌, ◌≤◌, ◌++◌, List, length, map, reverse, vec_capacity};
+ghost use Rattle.std.specs.Prelude.{◌≡◌, ◌+◌, ◌^◌, ◌<◌, ◌≤◌, ◌++◌, List, None, length, map, reverse, vec_capacity};
 ghost use Rattle.samoa_model.specs.declared.record.Entry.{Entry};
 ghost use Rattle.samoa_model.specs.Entries.{calls_made};
 ghost use Rattle.samoa_model.specs.Allowed.{attempt_all};
-ghost use Rattle.samoa_model.specs.Range.{IsSet};
 ghost use Rattle.samoa_serial.specs.World.{caller_number, calls_from, entry_of, handler_of as handler_in};
-ghost use Rattle.samoa_calls.specs.Tried.{refusal_in, entries_after, active_after};
+ghost use Rattle.samoa_calls.specs.Handed.{AreCounted};
+ghost use Rattle.samoa_calls.specs.Tried.{AreAdded, Counts, HasRoomFor, refusal_in, entries_after, active_after};
 
 use crate::stack::activate;
 use samoa_declare::{Visits, allows};
@@ -24,7 +24,7 @@ fn refusal(
     requires room { HasRoomFor visits.old handlers.now }
     ensures refusal { (entries : List Entry) → Counts visits.old entries
         → result ≡ refusal_in (attempt_all decl.now entries caller handlers.now) }
-    ensures visits { result ≡ None → visits.new ≡ counted visits.old handlers.now }
+    ensures added { result ≡ None → AreAdded visits.old handlers.now visits.new }
 {
     if handlers.is_empty() {
         return Some(Refusal::Unbound);

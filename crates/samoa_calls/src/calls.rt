@@ -1,5 +1,5 @@
 //! The calls of a computation, as an explicit list of the active ones.
-ghost use Rattle.std.specs.Prelude.{◌≡◌, ◌<◌, ◌≤◌, ◌↔◌, List, [], ◌∷◌, length, None, false, IfOk, IsSome, IsTrue, slice_get};
+ghost use Rattle.std.specs.Prelude.{◌≡◌, ◌+◌, ◌^◌, ◌<◌, ◌≤◌, ◌↔◌, List, [], ◌∷◌, ◌++◌, length, map, None, false, IfOk, IsSome, IsTrue, slice_get, vec_capacity};
 ghost use Rattle.samoa_model.specs.Entries.{calls_made};
 ghost use Rattle.samoa_model.specs.Scripts.{Table, resolve};
 ghost use Rattle.samoa_serial.specs.declared.call.Active.{Active};
@@ -7,7 +7,8 @@ ghost use Rattle.samoa_serial.specs.declared.call.Call.{Call};
 ghost use Rattle.samoa_serial.specs.World.{attempts_of, noted, over_budget, waits};
 ghost use Rattle.samoa_serial.specs.Calls.{cut, goes_on, outcome_effect, start, take_outcome, woken};
 ghost use Rattle.samoa_bind.specs.Bound.{epochs_of, table_at};
-ghost use Rattle.samoa_calls.specs.Handed.{AreNamed, IsNamed, ended_at, ending_of, fresh, handed, next_moment, spent};
+ghost use Rattle.samoa_calls.specs.Handed.{AreCounted, AreNamed, IsCounted, IsNamed, ended_at, ending_of, fresh, handed, next_moment, spent};
+ghost use Rattle.samoa_calls.specs.Held.{handlers_of};
 
 use crate::attempt::attempt;
 use crate::stack::{go_on, hand, wait};
@@ -38,22 +39,33 @@ pub(crate) struct Calls {
 }
 
 impl Model for Calls {
-    ghost use Rattle.samoa_serial.specs.Calls.{Computation};
+    ghost use Rattle.samoa_calls.specs.Held.{Calling};
 
-    ghost Value = { Computation };
+    ghost Value = { Calling };
 
-    ghost use Rattle.samoa_calls.specs.Kept.{computation_of, IsKept};
+    ghost use Rattle.samoa_calls.specs.Kept.{calling_of, IsKept};
 
-    ghost view = { computation_of };
+    ghost view = { calling_of };
 
     ghost invariant = { IsKept };
+}
+
+/// Lists the handlers of a call that waits.
+fn list(listed: &mut Vec<HandlerId>, handlers: &[HandlerId])
+    requires { length listed.old.items + length handlers.now ≤ vec_capacity listed.old }
+    ensures listed { listed.new.items ≡ listed.old.items ++ handlers.now }
+    ensures capacity { vec_capacity listed.new ≡ vec_capacity listed.old }
+{
+    for handler in handlers {
+        listed.push_reserved(*handler);
+    }
 }
 
 impl Calls {
     /// Nothing is active and nothing waits. All room is made that the budget can come to.
     pub(crate) fn new(alloc: Global, budget: u32) -> Result<Calls, NoMemory>
         requires { budget ≤ 256 }
-        ensures { IfOk result (λ calls. calls ≡ fresh budget) }
+        ensures { IfOk result (λ calls. calls ≡ record { comp = fresh budget; waiting_handlers = [] }) }
     {
         let most = budget as usize;
         let active = Vec::with_capacity(alloc, 4 * most + 4)?;
@@ -77,7 +89,7 @@ impl Calls {
     /// The same in the memory of these calls, where it is enough.
     pub(crate) fn renewed(self, budget: u32) -> Result<Calls, NoMemory>
         requires { budget ≤ 256 }
-        ensures { IfOk result (λ calls. calls ≡ fresh budget) }
+        ensures { IfOk result (λ calls. calls ≡ record { comp = fresh budget; waiting_handlers = [] }) }
     {
         let most = budget as usize;
         let mut active = self.active;
@@ -107,10 +119,12 @@ impl Calls {
     /// The root call is attempted.
     pub(crate) fn start(&mut self, decl: &Decl, handlers: &[HandlerId], event: EventId, arg: Words)
         requires few { length handlers.now ≤ 4 }
-        requires fresh { self.old ≡ fresh self.old.units }
+        requires counted { AreCounted handlers.now }
+        requires fresh { self.old.comp ≡ fresh self.old.units }
         ensures none_waits { self.new.waiting ≡ [] }
         ensures started { (table : Table) → resolve table event ≡ handlers.now
-            → self.new ≡ start (attempts_of decl.now table) self.old.units event arg }
+            → self.new.comp ≡ start (attempts_of decl.now table) self.old.units event arg }
+        ensures waiting_handlers { self.new.waiting_handlers ≡ self.old.waiting_handlers }
     {
         let refused = attempt(
             &mut self.active,
@@ -131,7 +145,7 @@ impl Calls {
 
     /// The next handler step, None exactly where nothing is active.
     pub(crate) fn next(&self) -> Option<(MicroId, Moment)>
-        ensures next { result ≡ next_moment self.now }
+        ensures next { result ≡ next_moment self.now.comp }
         ensures active { IsSome result → (a : Active) × (rest : List Active) × (self.now.active ≡ a ∷ rest) }
     {
         if self.is_idle() {
@@ -155,10 +169,13 @@ impl Calls {
     ) -> Option<MicroId>
         requires active { (a : Active) × (rest : List Active) × (self.old.active ≡ a ∷ rest) }
         requires epoch { epoch < length (epochs_of tables.now node) }
+        requires counted { IsCounted (table_at tables.now node epoch) }
+        requires listed { self.old.waiting_handlers ≡ handlers_of (table_at tables.now node epoch) self.old.waiting }
         requires waiting_named { AreNamed (table_at tables.now node epoch) self.old.waiting }
         requires named { IsNamed (table_at tables.now node epoch) outcome }
-        ensures taken { self.new
-            ≡ take_outcome (attempts_of decl.now (table_at tables.now node epoch)) self.old outcome }
+        ensures taken { self.new.comp
+            ≡ take_outcome (attempts_of decl.now (table_at tables.now node epoch)) self.old.comp outcome }
+        ensures listed { self.new.waiting_handlers ≡ handlers_of (table_at tables.now node epoch) self.new.waiting }
         ensures ended { (a : Active) (rest : List Active) → self.old.active ≡ a ∷ rest
             → result ≡ ended_at a.call outcome }
     {
@@ -187,11 +204,14 @@ impl Calls {
         requires unit { 0 < self.old.units }
         requires active { (a : Active) × (rest : List Active) × (self.old.active ≡ a ∷ rest) }
         requires epoch { epoch < length (epochs_of tables.now node) }
+        requires counted { IsCounted (table_at tables.now node epoch) }
+        requires listed { self.old.waiting_handlers ≡ handlers_of (table_at tables.now node epoch) self.old.waiting }
         requires named { IsNamed (table_at tables.now node epoch) outcome }
         requires not_done { (c : Call) → ended_at c outcome ≡ None }
-        ensures { (a : Active) (rest : List Active) → self.old.active ≡ a ∷ rest
-            → self.new ≡ outcome_effect (attempts_of decl.now (table_at tables.now node epoch))
+        ensures effect { (a : Active) (rest : List Active) → self.old.active ≡ a ∷ rest
+            → self.new.comp ≡ outcome_effect (attempts_of decl.now (table_at tables.now node epoch))
             (spent self.old.books) self.old.answer rest a.call outcome }
+        ensures listed { self.new.waiting_handlers ≡ handlers_of (table_at tables.now node epoch) self.new.waiting }
     {
         let call = self.innermost();
         match outcome {
@@ -257,8 +277,9 @@ impl Calls {
         requires unit { 0 < self.old.units }
         requires no_call { calls_made (entry ∷ []) ≡ 0 }
         requires active { (a : Active) × (rest : List Active) × (self.old.active ≡ a ∷ rest) }
-        ensures { (a : Active) (rest : List Active) → self.old.active ≡ a ∷ rest
-            → self.new ≡ goes_on (noted (spent self.old.books) entry) self.old.answer rest a.call frame }
+        ensures noted { (a : Active) (rest : List Active) → self.old.active ≡ a ∷ rest
+            → self.new.comp ≡ goes_on (noted (spent self.old.books) entry) self.old.answer rest a.call frame }
+        ensures waiting_handlers { self.new.waiting_handlers ≡ self.old.waiting_handlers }
     {
         self.units -= 1;
         self.entries.push(entry);
@@ -269,9 +290,12 @@ impl Calls {
     fn wake(&mut self, decl: &Decl, tables: &Tables, node: NodeId, epoch: u32)
         requires idle { self.old.active ≡ [] }
         requires epoch { epoch < length (epochs_of tables.now node) }
+        requires counted { IsCounted (table_at tables.now node epoch) }
+        requires listed { self.old.waiting_handlers ≡ handlers_of (table_at tables.now node epoch) self.old.waiting }
         requires names { AreNamed (table_at tables.now node epoch) self.old.waiting }
-        ensures { self.new ≡ woken (attempts_of decl.now (table_at tables.now node epoch))
+        ensures woken { self.new.comp ≡ woken (attempts_of decl.now (table_at tables.now node epoch))
             self.old.waiting self.old.books self.old.answer }
+        ensures listed { self.new.waiting_handlers ≡ handlers_of (table_at tables.now node epoch) self.new.waiting }
     {
         while self.taken < self.waiting.len() {
             let first = self.waiting[self.taken];
@@ -302,9 +326,11 @@ impl Calls {
     /// The innermost call has ended, and its reply is handed on.
     fn finish(&mut self, reply: Words)
         requires active { (a : Active) × (rest : List Active) × (self.old.active ≡ a ∷ rest) }
-        ensures { (a : Active) (rest : List Active) → self.old.active ≡ a ∷ rest
-            → self.new ≡ handed (noted self.old.books (Entry.Finished a.call.number reply))
+        ensures handed { (a : Active) (rest : List Active) → self.old.active ≡ a ∷ rest
+            → self.new.comp ≡ handed (noted self.old.books (Entry.Finished a.call.number reply))
             self.old.answer rest (Reply.Words reply) }
+        ensures waiting { self.new.waiting ≡ self.old.waiting }
+        ensures waiting_handlers { self.new.waiting_handlers ≡ self.old.waiting_handlers }
     {
         let number = self.innermost().number;
         self.entries.push(Entry::Finished {
@@ -322,8 +348,9 @@ impl Calls {
     /// No unit is left: all calls are dropped.
     fn cut(&mut self)
         requires active { (a : Active) × (rest : List Active) × (self.old.active ≡ a ∷ rest) }
-        ensures { (a : Active) (rest : List Active) → self.old.active ≡ a ∷ rest
-            → self.new ≡ cut (over_budget self.old.books a.call) }
+        ensures cut { (a : Active) (rest : List Active) → self.old.active ≡ a ∷ rest
+            → self.new.comp ≡ cut (over_budget self.old.books a.call) }
+        ensures waiting_handlers { self.new.waiting_handlers ≡ [] }
     {
         let call = self.innermost();
         self.entries.push(Entry::Refused {
@@ -342,9 +369,10 @@ impl Calls {
         requires few { length handlers.now ≤ 4 }
         requires unit { 0 < self.old.units }
         requires active { (a : Active) × (rest : List Active) × (self.old.active ≡ a ∷ rest) }
-        ensures { (a : Active) (rest : List Active) → self.old.active ≡ a ∷ rest
-            → self.new ≡ goes_on (waits (spent self.old.books) a.call event arg)
+        ensures asked { (a : Active) (rest : List Active) → self.old.active ≡ a ∷ rest
+            → self.new.comp ≡ goes_on (waits (spent self.old.books) a.call event arg)
             self.old.answer rest a.call frame }
+        ensures waiting_handlers { self.new.waiting_handlers ≡ self.old.waiting_handlers ++ handlers.now }
     {
         let call = self.innermost();
         self.units -= 1;
@@ -353,7 +381,7 @@ impl Calls {
             event,
             arg,
         });
-        self.list(handlers);
+        list(&mut self.handlers, handlers);
         self.entries.push(Entry::Waiting {
             call: call.number,
             event,
@@ -362,15 +390,11 @@ impl Calls {
         go_on(&mut self.active, frame, Reply::Words(Words::new()));
     }
 
-    /// Lists the handlers of a call that waits.
-    fn list(&mut self, handlers: &[HandlerId]) {
-        for handler in handlers {
-            self.handlers.push_reserved(*handler);
-        }
-    }
-
     /// The handler of an active call, the innermost first, None exactly past the last of them.
-    pub(crate) fn active(&self, at: usize) -> Option<HandlerId> {
+    pub(crate) fn active(&self, at: usize) -> Option<HandlerId>
+        ensures listed { result ≡ slice_get (map (λ a. a.call.handler) self.now.active) at }
+        ensures few { length self.now.active < 2 ^ 32 }
+    {
         if at < self.active.len() {
             Some(self.active[self.active.len() - 1 - at].call.handler)
         } else {
@@ -379,7 +403,10 @@ impl Calls {
     }
 
     /// A handler of a waiting call, None exactly past the last of them.
-    pub(crate) fn waiting(&self, at: usize) -> Option<HandlerId> {
+    pub(crate) fn waiting(&self, at: usize) -> Option<HandlerId>
+        ensures listed { result ≡ slice_get self.now.waiting_handlers at }
+        ensures few { length self.now.waiting_handlers < 2 ^ 32 }
+    {
         if at < self.handlers.len() - self.passed {
             Some(self.handlers[self.passed + at])
         } else {
@@ -397,12 +424,15 @@ impl Calls {
         frame: Words,
     )
         requires few { length handlers.now ≤ 4 }
+        requires counted { AreCounted handlers.now }
         requires unit { 0 < self.old.units }
         requires active { (a : Active) × (rest : List Active) × (self.old.active ≡ a ∷ rest) }
-        ensures { (a : Active) (rest : List Active) (table : Table)
+        ensures called { (a : Active) (rest : List Active) (table : Table)
             → self.old.active ≡ a ∷ rest → resolve table event ≡ handlers.now
-            → self.new ≡ outcome_effect (attempts_of decl.now table) (spent self.old.books)
+            → self.new.comp ≡ outcome_effect (attempts_of decl.now table) (spent self.old.books)
             self.old.answer rest a.call (Outcome.Call event arg frame) }
+        ensures waiting { self.new.waiting ≡ self.old.waiting }
+        ensures waiting_handlers { self.new.waiting_handlers ≡ self.old.waiting_handlers }
     {
         let call = self.innermost();
         self.units -= 1;
@@ -433,7 +463,7 @@ impl Calls {
 
     /// The answer, None where something is active or waits.
     pub(crate) fn ending(&self) -> Option<Ending>
-        ensures { result ≡ ending_of self.now }
+        ensures { result ≡ ending_of self.now.comp }
     {
         if self.is_over() { self.answer } else { None }
     }

@@ -1,5 +1,6 @@
 //! A computation before its root call.
 use crate::Comp;
+use samoa_declare::{Standing, nothing_left};
 use std::test::Fail;
 
 #[test]
@@ -8,5 +9,14 @@ fn begins_with_nothing(rt: HostRuntime) -> Result<(), Fail> {
     assert_eq!(rt; comp.decl(), 2);
     assert!(rt; comp.ending().is_none());
     assert!(rt; comp.entry(0).is_none());
+    Ok(())
+}
+
+#[test]
+fn nothing_stands_before_the_root_call(rt: HostRuntime) -> Result<(), Fail> {
+    let comp = Comp::new(rt.alloc(), 0, 1)?;
+    assert!(rt; comp.active(0).is_none());
+    assert!(rt; comp.waiting(0).is_none());
+    assert!(rt; nothing_left(&comp));
     Ok(())
 }

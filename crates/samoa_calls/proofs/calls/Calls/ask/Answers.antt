@@ -1,19 +1,22 @@
-use Rattle.std.proofs.Common.{arith, ap, ◌∙◌}
-use Rattle.samoa_serial.specs.Calls.{Computation}
+use Rattle.std.proofs.Common.{arith, ap, ◌∙◌, refl, List, length, length-append}
 use Rattle.samoa_model.specs.Entries.{calls_made}
 use Rattle.samoa_calls.proofs.Made.{calls_made-append, length_of_reverse}
+use Rattle.samoa_calls.specs.Held.{Calling}
+use Rattle.samoa_calls.proofs.Counts.{counts_noted}
+use Rattle.samoa_model.specs.declared.ids.HandlerId.{HandlerId}
 use Rattle.samoa_calls.proofs.calls.Calls.ask.Goals as goal
 
 pub go_on-requires : goal.go_on-requires
 go_on-requires c =
-    let nonempty = length_of_reverse c.self.inside.active.items _ _ (ap (λ (x : Computation). x.active) c.self.view_is ∙ c.requires.active.2) in
+    let nonempty = length_of_reverse c.self.inside.active.items _ _ (ap (λ (x : Calling). x.active) c.self.view_is ∙ c.requires.active.2) in
     omega arith
 
 pub invariant_of-self : goal.invariant_of-self
 invariant_of-self c =
     let made_now = simp calls_made-append at (ap calls_made c.push.ensures.entries) in
     let entered = c.push.ensures.len in
-    let units_are = ap (λ (x : Computation). x.units) c.self.view_is in
+    let longer = simp length-append at (ap (λ (hs : List HandlerId). length hs) c.list.ensures.listed) in
+    let units_are = ap (λ (x : Calling). x.units) c.self.view_is in
     record {
       taken = omega arith;
       made = omega (arith, made_now);
@@ -21,5 +24,10 @@ invariant_of-self c =
       waiting_room = omega (arith, units_are);
       entries_room = omega (arith, units_are);
       numbers = omega (arith, units_are);
+      counts = counts_noted _ _ _ _ c.push.ensures.entries refl c.self.invariant.counts;
+      few_active = omega arith;
+      passed = omega (arith, longer);
+      handlers_room = omega (arith, longer, units_are);
+      few_handlers = omega (arith, longer, units_are);
       root = λ none. absurd (omega (arith, entered));
     }

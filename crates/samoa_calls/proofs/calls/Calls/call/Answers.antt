@@ -3,7 +3,6 @@ use Rattle.std.proofs.lemmas.List.{length-reverse}
 use Rattle.samoa_model.specs.declared.ids.HandlerId.{HandlerId}
 use Rattle.samoa_serial.specs.declared.call.Active.{Active}
 use Rattle.samoa_model.specs.declared.record.Entry.{Entry}
-use Rattle.samoa_serial.specs.Calls.{Computation}
 use Rattle.samoa_model.specs.Entries.{calls_made}
 use Rattle.samoa_calls.proofs.Made.{calls_made-append, calls_made-entries_of, length-calls_from, length-to_begin, length-entries_of, length_of_reverse}
 use Rattle.samoa_model.specs.Allowed.{Attempt}
@@ -11,11 +10,12 @@ use Rattle.samoa_model.specs.Allowed.{attempt_all}
 use Rattle.samoa_serial.specs.World.{handler_of}
 use Rattle.samoa_calls.specs.Tried.{active_after, entries_after}
 use Rattle.samoa_calls.proofs.Tries.{accepts_is, refuses_is, entries_after-accepted, active_after-accepted}
+use Rattle.samoa_calls.specs.Held.{Calling}
 use Rattle.samoa_calls.proofs.calls.Calls.call.Goals as goal
 
 pub wait-requires : goal.wait-requires
 wait-requires c =
-    let nonempty = length_of_reverse c.self.inside.active.items _ _ (ap (λ (x : Computation). x.active) c.self.view_is ∙ c.requires.active.2) in
+    let nonempty = length_of_reverse c.self.inside.active.items _ _ (ap (λ (x : Calling). x.active) c.self.view_is ∙ c.requires.active.2) in
     omega arith
 
 pub invariant_of-self : goal.invariant_of-self
@@ -27,7 +27,7 @@ invariant_of-self c =
     let entries_len = simp (length-append, length-entries_of, length-calls_from) at (ap (λ (xs : List Entry). length xs) entries_are) in
     let active_len = simp (length-append, length-reverse, length-to_begin, length-calls_from) at (ap (λ (xs : List Active). length xs) active_are) in
     let made_now = simp (calls_made-append, calls_made-entries_of, length-calls_from) at (ap calls_made entries_are) in
-    let units_are = ap (λ (x : Computation). x.units) c.self.view_is in
+    let units_are = ap (λ (x : Calling). x.units) c.self.view_is in
     record {
       taken = omega arith;
       made = omega (arith, made_now);
@@ -35,6 +35,11 @@ invariant_of-self c =
       waiting_room = omega arith;
       entries_room = omega (arith, active_len, entries_len, units_are);
       numbers = omega (arith, units_are);
+      counts = c.attempt-refused.ensures.visits;
+      few_active = omega (arith, active_len);
+      passed = omega arith;
+      handlers_room = omega (arith, units_are);
+      few_handlers = omega (arith, units_are);
       root = λ none. absurd (omega (arith, entries_len, ap (λ (hs : List HandlerId). length hs) acc.list));
     }
 
@@ -48,7 +53,7 @@ invariant_of-self-in-Some c =
     let entries_len = simp length-append at (ap (λ (xs : List Entry). length xs) entries_are) in
     let active_len = simp length-reverse at (ap (λ (xs : List Active). length xs) active_are) in
     let made_now = simp calls_made-append at (ap calls_made entries_are) in
-    let units_are = ap (λ (x : Computation). x.units) c.self.view_is in
+    let units_are = ap (λ (x : Calling). x.units) c.self.view_is in
     record {
       taken = omega arith;
       made = omega (arith, made_now);
@@ -56,5 +61,10 @@ invariant_of-self-in-Some c =
       waiting_room = omega arith;
       entries_room = omega (arith, active_len, entries_len, units_are);
       numbers = omega (arith, units_are);
+      counts = c.attempt-refused.ensures.visits;
+      few_active = omega (arith, active_len);
+      passed = omega arith;
+      handlers_room = omega (arith, units_are);
+      few_handlers = omega (arith, units_are);
       root = λ none. absurd (omega (arith, entries_len));
     }

@@ -1,17 +1,18 @@
 use Rattle.std.proofs.Common.{◌∷◌, [], arith, ap, ◌∙◌}
 use Rattle.samoa_model.specs.Entries.{calls_made}
-use Rattle.samoa_serial.specs.Calls.{Computation}
 use Rattle.samoa_calls.proofs.Made.{calls_made-append, length_of_reverse}
+use Rattle.samoa_calls.specs.Held.{Calling}
+use Rattle.samoa_calls.proofs.Counts.{counts_noted}
 use Rattle.samoa_calls.proofs.calls.Calls.note.Goals as goal
 
 pub go_on-requires : goal.go_on-requires
 go_on-requires c =
-    let nonempty = length_of_reverse c.self.inside.active.items _ _ (ap (λ (x : Computation). x.active) c.self.view_is ∙ c.requires.active.2) in
+    let nonempty = length_of_reverse c.self.inside.active.items _ _ (ap (λ (x : Calling). x.active) c.self.view_is ∙ c.requires.active.2) in
     omega arith
 
 pub invariant_of-self : goal.invariant_of-self
 invariant_of-self c =
-    let units_are = ap (λ (x : Computation). x.units) c.self.view_is in
+    let units_are = ap (λ (x : Calling). x.units) c.self.view_is in
     let made_now = ap calls_made c.push.ensures.entries in
     let entered = c.push.ensures.len in
     record {
@@ -21,5 +22,10 @@ invariant_of-self c =
       waiting_room = omega (arith, units_are);
       entries_room = omega (arith, units_are);
       numbers = omega (arith, units_are);
+      counts = counts_noted _ _ _ _ c.push.ensures.entries c.requires.no_call c.self.invariant.counts;
+      few_active = omega arith;
+      passed = omega arith;
+      handlers_room = omega (arith, units_are);
+      few_handlers = omega (arith, units_are);
       root = λ none. absurd (omega (arith, entered));
     }

@@ -10,12 +10,13 @@ use Rattle.samoa_serial.specs.Calls.{Computation}
 use Rattle.samoa_calls.specs.Tried.{active_after, entries_after}
 use Rattle.samoa_calls.proofs.Made.{calls_made-append, calls_made-entries_of, length-calls_from, length-to_begin, length-entries_of}
 use Rattle.samoa_calls.proofs.Tries.{accepts_is, refuses_is, entries_after-accepted, active_after-accepted}
+use Rattle.samoa_calls.specs.Held.{Calling}
 use Rattle.samoa_calls.proofs.calls.Calls.start.Goals as goal
 
 pub invariant_of-self : goal.invariant_of-self
 invariant_of-self c =
     let es = c.self.inside.entries.entries in
-    let was = c.self.view_is ∙ c.requires.fresh in
+    let was = ap (λ (x : Calling). x.comp) c.self.view_is ∙ c.requires.fresh in
     let no_entries : length es ≡ 0 = ap (λ (x : Computation). length x.entries) was in
     let none_active = simp length-reverse at (ap (λ (x : Computation). length x.active) was) in
     let none_waits = simp length-drop at (ap (λ (x : Computation). length x.waiting) was) in
@@ -33,13 +34,18 @@ invariant_of-self c =
       waiting_room = omega arith;
       entries_room = omega (arith, active_len, entries_len, none_active, none_waits, room.entries);
       numbers = omega (arith, none_waits, room.numbers);
+      counts = c.attempt-refused.ensures.visits;
+      few_active = omega (arith, active_len);
+      passed = omega arith;
+      handlers_room = omega arith;
+      few_handlers = omega arith;
       root = λ none. absurd (omega (arith, entries_len, ap (λ (hs : List HandlerId). length hs) acc.list));
     }
 
 pub invariant_of-self-in-Some : goal.invariant_of-self-in-Some
 invariant_of-self-in-Some c =
     let es = c.self.inside.entries.entries in
-    let was = c.self.view_is ∙ c.requires.fresh in
+    let was = ap (λ (x : Calling). x.comp) c.self.view_is ∙ c.requires.fresh in
     let no_entries : length es ≡ 0 = ap (λ (x : Computation). length x.entries) was in
     let none_active = simp length-reverse at (ap (λ (x : Computation). length x.active) was) in
     let none_waits = simp length-drop at (ap (λ (x : Computation). length x.waiting) was) in
@@ -58,5 +64,10 @@ invariant_of-self-in-Some c =
       waiting_room = omega arith;
       entries_room = omega (arith, active_len, entries_len, none_active, none_waits, room.entries);
       numbers = omega (arith, none_waits, room.numbers);
+      counts = c.attempt-refused.ensures.visits;
+      few_active = omega (arith, active_len);
+      passed = omega arith;
+      handlers_room = omega arith;
+      few_handlers = omega arith;
       root = λ none. absurd (omega (arith, entries_len));
     }

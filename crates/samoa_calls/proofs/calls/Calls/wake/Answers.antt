@@ -6,7 +6,7 @@ use Rattle.samoa_serial.specs.declared.call.Active.{Active}
 use Rattle.samoa_serial.specs.declared.call.Waiting.{Waiting}
 use Rattle.samoa_model.specs.Entries.{calls_made}
 use Rattle.samoa_model.specs.Allowed.{Attempt}
-use Rattle.samoa_serial.specs.Calls.{Computation, woken}
+use Rattle.samoa_serial.specs.Calls.{woken}
 use Rattle.samoa_serial.specs.World.{attempts_of, handler_of}
 use Rattle.samoa_model.specs.Allowed.{attempt_all}
 use Rattle.samoa_bind.specs.Bound.{table_at}
@@ -14,6 +14,9 @@ use Rattle.samoa_calls.specs.Tried.{active_after, entries_after}
 use Rattle.samoa_calls.proofs.Made.{calls_made-append, calls_made-entries_of, length-calls_from, length-to_begin, length-entries_of}
 use Rattle.samoa_calls.proofs.Tries.{accepts_is, refuses_is, entries_after-accepted, active_after-accepted}
 use Rattle.samoa_calls.proofs.Wakes.{wake_refused, wake_accepted, names_first, names_later, empty_backwards}
+use Rattle.samoa_calls.specs.Held.{Calling}
+use Rattle.samoa_calls.proofs.Listed.{listed_next}
+use Rattle.samoa_calls.specs.Held.{handlers_of}
 use Rattle.samoa_calls.proofs.calls.Calls.wake.Goals as goal
 
 pub resolve-handlers-requires-clause-event : goal.resolve-handlers-requires-clause-event
@@ -23,10 +26,15 @@ resolve-handlers-requires-clause-event c =
 pub loop-self-init : goal.loop-self-init
 loop-self-init c = record {
   kept = c.self.invariant;
-  idle = empty_backwards _ (ap (λ (x : Computation). x.active) c.self.view_is ∙ c.requires.idle);
+  idle = empty_backwards _ (ap (λ (x : Calling). x.active) c.self.view_is ∙ c.requires.idle);
   names = subst (λ (ws : List Waiting). All (λ (w : Waiting). w.event.0 < length (table_at c.args.tables.now c.args.node c.args.epoch)) ws)
-      (sym (ap (λ (x : Computation). x.waiting) c.self.view_is)) c.requires.names;
-  same = ap (λ (x : Computation). woken (attempts_of c.args.decl.now (table_at c.args.tables.now c.args.node c.args.epoch)) x.waiting x.books x.answer) c.self.view_is;
+      (sym (ap (λ (x : Calling). x.waiting) c.self.view_is)) c.requires.names;
+  listed = record {
+    within = c.self.invariant.passed;
+    list = ap (λ (x : Calling). x.waiting_handlers) c.self.view_is ∙ (c.requires.listed
+        ∙ ap (λ (x : Calling). handlers_of (table_at c.args.tables.now c.args.node c.args.epoch) x.waiting) (sym c.self.view_is));
+  };
+  same = ap (λ (x : Calling). woken (attempts_of c.args.decl.now (table_at c.args.tables.now c.args.node c.args.epoch)) x.waiting x.books x.answer) c.self.view_is;
 }
 
 pub invariant_of-self-in-None : goal.invariant_of-self-in-None
@@ -39,6 +47,8 @@ invariant_of-self-in-None c =
     let entries_len = simp (length-append, length-entries_of, length-calls_from) at (ap (λ (xs : List Entry). length xs) entries_are) in
     let active_len = simp (length-append, length-reverse, length-to_begin, length-calls_from) at (ap (λ (xs : List Active). length xs) active_are) in
     let made_now = simp (calls_made-append, calls_made-entries_of, length-calls_from) at (ap calls_made entries_are) in
+    let next = listed_next (table_at c.args.tables.now c.args.node c.args.epoch) c.loop-self.self-inside.handlers.items c.loop-self.self-inside.passed c.loop-self.self-inside.waiting.items
+    c.loop-self.self-inside.taken first c.resolve-handlers.result.now c.index-first.ensures (omega arith) c.resolve-handlers.ensures.list c.loop-self.invariant.listed in
     record {
       taken = omega arith;
       made = omega (arith, made_now);
@@ -46,11 +56,16 @@ invariant_of-self-in-None c =
       waiting_room = omega arith;
       entries_room = omega (arith, active_len, entries_len);
       numbers = omega arith;
+      counts = c.attempt-refused.ensures.visits;
+      few_active = omega (arith, active_len);
+      passed = next.within;
+      handlers_room = omega arith;
+      few_handlers = omega arith;
       root = λ none. absurd (omega (arith, entries_len, ap (λ (hs : List HandlerId). length hs) acc.list));
     }
 
-pub returns-in-None : goal.returns-in-None
-returns-in-None c =
+pub returns-in-None-clause-woken : goal.returns-in-None-clause-woken
+returns-in-None-clause-woken c =
     let es = c.loop-self.self-inside.entries.entries in
     let first = c.index-first.result.now in
     let handlers = c.resolve-handlers.result.now in
@@ -74,6 +89,8 @@ loop-self-preserved c =
     let entries_len = simp length-append at (ap (λ (xs : List Entry). length xs) entries_are) in
     let active_len = simp length-reverse at (ap (λ (xs : List Active). length xs) active_are) in
     let made_now = simp calls_made-append at (ap calls_made entries_are) in
+    let next = listed_next (table_at c.args.tables.now c.args.node c.args.epoch) c.loop-self.self-inside.handlers.items c.loop-self.self-inside.passed c.loop-self.self-inside.waiting.items
+    c.loop-self.self-inside.taken first c.resolve-handlers.result.now c.index-first.ensures (omega arith) c.resolve-handlers.ensures.list c.loop-self.invariant.listed in
     record {
       kept = record {
         taken = omega arith;
@@ -82,11 +99,27 @@ loop-self-preserved c =
         waiting_room = omega arith;
         entries_room = omega (arith, active_len, entries_len);
         numbers = omega arith;
+        counts = c.attempt-refused.ensures.visits;
+        few_active = omega (arith, active_len);
+        passed = next.within;
+        handlers_room = omega arith;
+        few_handlers = omega arith;
         root = λ none. absurd (omega (arith, entries_len));
       };
       idle = empty_backwards _ (active_are ∙ ap (λ (xs : List Active). reverse xs) c.loop-self.invariant.idle);
       names = names_later _ c.loop-self.self-inside.waiting.items c.loop-self.self-inside.taken first (omega arith) c.loop-self.invariant.names;
+      listed = next;
       same = wake_refused c.args.decl.now (table_at c.args.tables.now c.args.node c.args.epoch) c.loop-self.self-inside.waiting.items c.loop-self.self-inside.taken c.loop-self.self-inside.units first es _
           c.loop-self.self-inside.answer handlers c.in-Some.field-0 c.index-first.ensures (omega arith) c.resolve-handlers.ensures.list refuses c.attempt-refused.ensures.entries
           ∙ c.loop-self.invariant.same;
     }
+
+pub returns-in-None-clause-listed : goal.returns-in-None-clause-listed
+returns-in-None-clause-listed c =
+    let first = c.index-first.result.now in
+    let next = listed_next (table_at c.args.tables.now c.args.node c.args.epoch) c.loop-self.self-inside.handlers.items c.loop-self.self-inside.passed c.loop-self.self-inside.waiting.items
+    c.loop-self.self-inside.taken first c.resolve-handlers.result.now c.index-first.ensures (omega arith) c.resolve-handlers.ensures.list c.loop-self.invariant.listed in
+    next.list
+
+pub returns-clause-listed : goal.returns-clause-listed
+returns-clause-listed c = c.loop-self.invariant.listed.list

@@ -12,4 +12,4 @@ returns-clause-named c =
     let table = table_at c.args.tables.now c.args.node c.args.epoch in
     let were = subst (λ (h : Held). AreNamed table h.waiting) (sym c.self.view_is) c.requires.waiting_named in
     subst (λ (x : Computation). AreNamed table x.waiting) (sym c.take_outcome.ensures.taken)
-    (named-taken table (attempts_of c.args.decl.now table) c.self.inside.calls c.args.outcome were c.requires.named)
+    (named-taken table (attempts_of c.args.decl.now table) c.self.inside.calls.comp c.args.outcome were c.requires.named)
