@@ -15,5 +15,6 @@ fn takes_turns(rt: HostRuntime) -> Result<(), Fail> {
         versions.finish(1, first, 1);
     }
     assert!(rt; versions.turn(1, second, 2));
+    assert_eq!(rt; versions.local(1), first);
     Ok(())
 }
