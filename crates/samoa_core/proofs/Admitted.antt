@@ -1,18 +1,19 @@
 -- What an admission keeps of the fields of a core.
-use Rattle.std.proofs.Common.{arith, ◌≡◌, ◌≢◌, ◌⊎◌, inl, inr, ℕ, zero, suc, ◌+◌, ◌-◌, ◌*◌, ◌<◌, ◌≤◌, refl, sym, ap, subst, ◌∙◌, List, [], ◌∷◌, ◌++◌, length, length-append, get_or, min, Bool, true, false, Option, Some, None, if◌then◌else◌}
+use Rattle.std.proofs.Common.{arith, ◌≡◌, ◌≢◌, ◌⊎◌, inl, inr, ℕ, zero, suc, ◌+◌, ◌-◌, ◌*◌, ◌<◌, ◌≤◌, refl, sym, ap, subst, ◌∙◌, List, [], ◌∷◌, ◌++◌, length, length-append, get_or, min, Bool, false, Option, Some, None}
 use Rattle.std.proofs.lemmas.List.{get_or_append_left, get_or_push}
-use Rattle.samoa_model.specs.Allowed.{declares, weight}
+use Rattle.samoa_model.specs.Allowed.{weight}
 use Rattle.samoa_model.specs.Cells.{cells_of}
-use Rattle.samoa_model.specs.Range.{IsExtOf, IsSet}
+use Rattle.samoa_model.specs.Range.{IsExtOf}
 use Rattle.samoa_model.specs.Scripts.{Table, decl_of, first_table}
 use Rattle.samoa_model.specs.declared.handler.Moment.{Moment}
 use Rattle.samoa_model.specs.declared.record.Ext.{Ext}
 use Rattle.samoa_model.specs.declared.record.Step.{Step}
 use Rattle.samoa_model.specs.declared.script.Decl.{Decl}
 use Rattle.samoa_model.specs.declared.script.Script.{Script}
-use Rattle.samoa_calls.specs.Held.{Held}
+use Rattle.samoa_calls.specs.Held.{Held, handlers_of}
 use Rattle.samoa_calls.specs.Handed.{AreNamed}
 use Rattle.samoa_serial.specs.declared.call.Call.{Call}
+use Rattle.samoa_serial.specs.declared.call.Waiting.{Waiting}
 use Rattle.samoa_serial.specs.Alone.{next_step}
 use Rattle.samoa_serial.specs.Calls.{Computation, start}
 use Rattle.samoa_serial.specs.World.{attempts_of}
@@ -20,7 +21,7 @@ use Rattle.samoa_invariant.specs.Inv.{Invariant}
 use Rattle.samoa_invariant.specs.Play.{Agree, Play, turns, version, weight_at}
 use Rattle.samoa_invariant.specs.Slots.{At}
 use Rattle.samoa_invariant.specs.State as model
-use Rattle.samoa_invariant.specs.State.{home_of, left, left_of, named, put, shorts, sum_to, to_end}
+use Rattle.samoa_invariant.specs.State.{home_of, left, left_of, named, shorts, sum_to, to_end}
 use Rattle.samoa_invariant.specs.Runs.{IsDue, IsRun, Trace, ext_at, no_ext, play, play_of, state, with_ext, with_step}
 use Rattle.samoa_invariant.proofs.Agrees.{turns-agree}
 use Rattle.samoa_invariant.proofs.Further.{version-most}
@@ -37,9 +38,10 @@ use Rattle.samoa_core.specs.Admission.{admitted}
 use Rattle.samoa_core.specs.Since.{cleared_comps}
 use Rattle.samoa_core.specs.Slots.{Grid, Row}
 use Rattle.samoa_core.specs.Kept.{Fields, Holds, Kept, held_of, trace_of}
+use Rattle.samoa_core.proofs.Declares.{weight-most}
 use Rattle.samoa_core.proofs.Facts.{few}
 use Rattle.samoa_core.proofs.Grids.{grid-row, grid-within_same, row-push}
-use Rattle.samoa_core.proofs.Rules.{caused-same, decl-set, table-at}
+use Rattle.samoa_core.proofs.Rules.{caused-same, decl-of, table-at}
 use Rattle.samoa_core.proofs.Since.{cleared-ext, cleared-step}
 use Rattle.samoa_core.proofs.Taken.{grid-raised, length-taken, taken-at}
 use Rattle.samoa_core.proofs.Toll.{spare-most, sum-le}
@@ -143,46 +145,42 @@ is_due fs ext kept lt fits =
       enabled = subst (λ (c : model.Core). model.CanAdmit (play t1) c) (sym same) can;
     }
 
-one_or_none : (b : Bool) → (if b then 1 else 0) ≤ 1
-one_or_none true = omega arith
-one_or_none false = omega arith
-
-set-weight : (d : Decl) (p : ℕ) → IsSet d → weight d p ≤ 1
-set-weight (Decl.Set micros) p set = one_or_none (declares (Decl.Set micros) p)
-set-weight (Decl.Bound bounds) p set = absurd set
-set-weight (Decl.Route vertices roots edges) p set = absurd set
-
 -- no version comes near the end of its range
 pub small : (fs : Fields) (v p : ℕ) → Kept fs → v < fs.script.nodes → p < length fs.script.micros
-    → get_or fs.global (v * length fs.script.micros + p) 0 ≤ 100000
+    → get_or fs.global (v * length fs.script.micros + p) 0 ≤ 25600000
 small fs v p kept lt below =
     let t : Trace = trace_of fs in
     let i : Invariant (play t) (state t) = invariant t kept.is_run in
     let all : (state t).count ≡ length fs.exts = kept.holds.admitted in
     let most : length fs.exts ≤ 100000 = few fs kept in
     let is : (state t).global v p ≡ version (play t) (state t).count v p = i.versions.global v p in
-    let bound : version (play t) (state t).count v p ≤ (state t).count * 1 =
-    version-most (play t) 1 (state t).count v p
-    (λ k less. set-weight ((play t).decl k) p (decl-set fs.script (ext_at fs.exts k) kept.in_range kept.built (kept.known k (omega (arith, less, all))))) in
+    let bound : version (play t) (state t).count v p ≤ (state t).count * 256 =
+    version-most (play t) 256 (state t).count v p
+    (λ k less. weight-most fs.script ((play t).decl k) p (decl-of fs.script (ext_at fs.exts k) kept.in_range (kept.known k (omega (arith, less, all))))) in
     let cell : get_or fs.global (v * length fs.script.micros + p) 0 ≡ (state t).global v p =
     get_is {A = ℕ} fs.global (v * length fs.script.micros + p) ((state t).global v p) 0 (kept.holds.global.value v p lt below) in
     omega (arith, all, most, is, bound, cell)
 
--- a computation that has just begun
+-- a computation that has just begun: none of its calls waits
 just_begun : (fs : Fields) (ext : Ext) → Kept fs → ext_at (fs.exts ++ ext ∷ []) (state (trace_of fs)).count ≡ ext → Invariant (play (trace_of fs)) (state (trace_of fs))
+    → (started fs.script ext).comp.waiting ≡ []
     → held_of fs.script (fs.exts ++ ext ∷ []) (model.admit (play (with_ext (trace_of fs) ext)) (state (trace_of fs))) (state (trace_of fs)).count ≡ started fs.script ext
-just_begun fs ext kept new_at i =
+just_begun fs ext kept new_at i waits =
     let t : Trace = trace_of fs in
     let P : Play = play (with_ext t ext) in
     let core : model.Core = state t in
     let k : ℕ = core.count in
-    let table : P.change k (core.present (P.node k)) ≡ first_table fs.script =
+    let first : Table = first_table fs.script in
+    let table : P.change k (core.present (P.node k)) ≡ first =
     caused-same fs.script kept.built.unchanging (ext_at (fs.exts ++ ext ∷ []) k).cause (core.present (P.node k))
     ∙ (i.booked.present (P.node k) ∙ table-at t kept.built k (P.node k)) in
-    ap (λ (d : Computation). let h : Held = record { decl = decl_number fs.script (ext_at (fs.exts ++ ext ∷ []) k); comp = d } in h)
-    (put-here {A = Computation} core.comp k k (start (attempts_of (P.decl k) (P.change k (core.present (P.node k)))) (P.budget k) (P.root k) (P.args k)) refl)
-    ∙ (ap (λ (x : Table). let h : Held = record { decl = decl_number fs.script (ext_at (fs.exts ++ ext ∷ []) k); comp = start (attempts_of (P.decl k) x) (P.budget k) (P.root k) (P.args k) } in h) table
-    ∙ ap (λ (x : Ext). started fs.script x) new_at)
+    let comp : (model.admit P core).comp k ≡ (started fs.script ext).comp =
+    put-here {A = Computation} core.comp k k (start (attempts_of (P.decl k) (P.change k (core.present (P.node k)))) (P.budget k) (P.root k) (P.args k)) refl
+    ∙ (ap (λ (x : Table). start (attempts_of (P.decl k) x) (P.budget k) (P.root k) (P.args k)) table
+    ∙ ap (λ (x : Ext). (started fs.script x).comp) new_at) in
+    ap (λ (d : Computation). let h : Held = record { decl = decl_number fs.script (ext_at (fs.exts ++ ext ∷ []) k); comp = d; waiting_handlers = handlers_of first d.waiting } in h) comp
+    ∙ (ap (λ (x : Ext). let h : Held = record { decl = decl_number fs.script x; comp = (started fs.script ext).comp; waiting_handlers = handlers_of first (started fs.script ext).comp.waiting } in h) new_at
+    ∙ ap (λ (ws : List Waiting). let h : Held = record { decl = decl_number fs.script ext; comp = (started fs.script ext).comp; waiting_handlers = handlers_of first ws } in h) waits)
 
 pub kept-admission : (fs : Fields) (ext : Ext) (number held promised clears_room journal_room : ℕ) (comp : Held) (global private : List ℕ)
     → Kept fs → IsExtOf fs.script ext → length fs.exts < 100000 → (state (trace_of fs)).cells + cells_of fs.script ext ≤ fs.cells
@@ -257,7 +255,6 @@ kept-admission fs ext number held promised clears_room journal_room comp global 
     record {
       in_range = kept.in_range;
       built = kept.built;
-      declares = kept.declares;
       tables = kept.tables;
       micros = kept.micros;
       known = λ j lt. known_at j (omega arith) (same_or_not j n);
@@ -269,6 +266,9 @@ kept-admission fs ext number held promised clears_room journal_room comp global 
       holds = subst (λ (c : model.Core). Holds new c) (sym step_is) holds;
     }
   where
+    none_waits : (started fs.script ext).comp.waiting ≡ []
+    none_waits = ap (λ (h : Held). h.comp.waiting) (sym is_comp) ∙ waits
+
     old_private : (i p : ℕ) → fs.first + i < (state (trace_of fs)).count
         → (model.admit (play (with_ext (trace_of fs) ext)) (state (trace_of fs))).private (fs.first + i) ((play (with_ext (trace_of fs) ext)).node (fs.first + i)) p
         ≡ (state (trace_of fs)).private (fs.first + i) ((play (trace_of fs)).node (fs.first + i)) p
@@ -299,16 +299,16 @@ kept-admission fs ext number held promised clears_room journal_room comp global 
         let all : (state (trace_of fs)).count ≡ length fs.exts = kept.holds.admitted in
         let P : Play = play (with_ext (trace_of fs) ext) in
         let core : model.Core = state (trace_of fs) in
-        ap (λ (d : Computation). let h : Held = record { decl = decl_number fs.script (ext_at (fs.exts ++ ext ∷ []) (fs.first + i)); comp = d } in h)
+        ap (λ (d : Computation). let h : Held = record { decl = decl_number fs.script (ext_at (fs.exts ++ ext ∷ []) (fs.first + i)); comp = d; waiting_handlers = handlers_of (first_table fs.script) d.waiting } in h)
         (put-else {A = Computation} core.comp core.count (fs.first + i) _ (λ e. omega arith))
-        ∙ ap (λ (x : Ext). let h : Held = record { decl = decl_number fs.script x; comp = core.comp (fs.first + i) } in h) (old_ext fs.exts ext (fs.first + i) (omega arith))
+        ∙ ap (λ (x : Ext). let h : Held = record { decl = decl_number fs.script x; comp = core.comp (fs.first + i); waiting_handlers = handlers_of (first_table fs.script) (core.comp (fs.first + i)).waiting } in h) (old_ext fs.exts ext (fs.first + i) (omega arith))
 
     new_comp : (rows : ℕ) → fs.first + rows ≡ (state (trace_of fs)).count → ext_at (fs.exts ++ ext ∷ []) (state (trace_of fs)).count ≡ ext
         → Invariant (play (trace_of fs)) (state (trace_of fs))
         → held_of fs.script (fs.exts ++ ext ∷ []) (model.admit (play (with_ext (trace_of fs) ext)) (state (trace_of fs))) (fs.first + rows) ≡ started fs.script ext
     new_comp rows last new_at i =
         ap (λ (j : ℕ). held_of fs.script (fs.exts ++ ext ∷ []) (model.admit (play (with_ext (trace_of fs) ext)) (state (trace_of fs))) j) last
-        ∙ just_begun fs ext kept new_at i
+        ∙ just_begun fs ext kept new_at i none_waits
 
     names_at : (j : ℕ) → fs.first ≤ j → j < suc (state (trace_of fs)).count → ext_at (fs.exts ++ ext ∷ []) (state (trace_of fs)).count ≡ ext
         → Invariant (play (trace_of fs)) (state (trace_of fs)) → (j ≡ (state (trace_of fs)).count) ⊎ (j ≢ (state (trace_of fs)).count)
@@ -317,7 +317,7 @@ kept-admission fs ext number held promised clears_room journal_room comp global 
         let after : model.Core = model.admit (play (with_ext (trace_of fs) ext)) (state (trace_of fs)) in
         let none : (after.comp j).waiting ≡ [] =
         ap (λ (n : ℕ). (after.comp n).waiting) e
-        ∙ (ap (λ (h : Held). h.comp.waiting) (just_begun fs ext kept new_at i) ∙ (ap (λ (h : Held). h.comp.waiting) (sym is_comp) ∙ waits)) in
+        ∙ (ap (λ (h : Held). h.comp.waiting) (just_begun fs ext kept new_at i none_waits) ∙ none_waits) in
         rw none (λ n d below. absurd (omega (arith, below)))
     names_at j le lt new_at i (inr ne) =
         let all : (state (trace_of fs)).count ≡ length fs.exts = kept.holds.admitted in

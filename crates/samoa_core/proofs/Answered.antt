@@ -20,7 +20,7 @@ use Rattle.samoa_core.proofs.Grids.{grid-none, row-none}
 use Rattle.samoa_core.specs.Room.{to_come}
 use Rattle.samoa_invariant.specs.Runs.{ext_at}
 use Rattle.samoa_core.proofs.Ended.{ended-come}
-use Rattle.samoa_core.proofs.Rules.{decl-set}
+use Rattle.samoa_core.proofs.Rules.{decl-of}
 use Rattle.samoa_core.proofs.Since.{cleared-clear}
 
 -- a computation that has ended has its answer
@@ -63,8 +63,8 @@ kept-clear fs first promised kept all held is_first is_promised =
     let new : Fields = cleared_fields fs (fs.clears ++ length fs.journal ∷ []) first promised in
     let enough : to_come (play t) core ≤ fs.promised = kept.holds.promised in
     let few : to_come (play t) core ≤ 3 * core.count =
-    ended-come (play t) core (invariant t kept.is_run)
-    (λ k lt. decl-set fs.script (ext_at fs.exts k) kept.in_range kept.built (kept.known k (omega (arith, lt, count)))) all in
+    ended-come fs.script (play t) core (invariant t kept.is_run)
+    (λ k lt. decl-of fs.script (ext_at fs.exts k) kept.in_range (kept.known k (omega (arith, lt, count)))) all in
     let room : length fs.journal + fs.promised ≤ fs.journal_room = kept.room in
     let none : zero ≡ length fs.exts - first = omega arith in
     let holds : Holds new (cleared core) = record {
@@ -85,7 +85,6 @@ kept-clear fs first promised kept all held is_first is_promised =
     record {
       in_range = kept.in_range;
       built = kept.built;
-      declares = kept.declares;
       tables = kept.tables;
       micros = kept.micros;
       known = kept.known;

@@ -1,12 +1,10 @@
 -- How little is to come where all have ended.
-use Rattle.std.proofs.Common.{arith, ◌≡◌, inl, inr, ℕ, zero, suc, ◌*◌, ◌<◌, ◌≤◌, refl, sym, ap, ◌∙◌, List, [], ◌∷◌, length, take, Bool, true, false, ◌||◌, ◌==◌, eq-eqb, if◌then◌else◌}
-use Rattle.std.specs.List.{list_any}
+use Rattle.std.proofs.Common.{arith, ◌≡◌, inl, inr, ℕ, zero, suc, ◌*◌, ◌<◌, ◌≤◌, refl, sym, ap, ◌∙◌, List, [], ◌∷◌, length, take, Bool, true, false}
 use Rattle.std.specs.Prelude.{nat_lt}
 use Rattle.std.proofs.lemmas.Bool.{ltb-true}
 use Rattle.std.proofs.lemmas.List.{length-take-le}
-use Rattle.samoa_model.specs.Allowed.{declares, weight}
-use Rattle.samoa_model.specs.Range.{IsSet}
-use Rattle.samoa_model.specs.declared.script.Decl.{Decl}
+use Rattle.samoa_model.specs.Range.{IsDeclOf}
+use Rattle.samoa_model.specs.declared.script.Script.{Script}
 use Rattle.samoa_serial.specs.Alone.{Machine, next_step}
 use Rattle.samoa_serial.specs.World.{Turn}
 use Rattle.samoa_serial.proofs.Point.{turns-after}
@@ -17,6 +15,7 @@ use Rattle.samoa_invariant.proofs.Lefts.{home-most}
 use Rattle.samoa_invariant.proofs.Points.{point_idle}
 use Rattle.samoa_invariant.proofs.Progress.{IsIn}
 use Rattle.samoa_core.specs.Room.{spare_of, to_come}
+use Rattle.samoa_core.proofs.Declares.{named_declared}
 use Rattle.samoa_core.proofs.Toll.{spare-most, sum-le}
 
 -- all its handler steps were made
@@ -44,33 +43,15 @@ no_shorts private local (q ∷ qs) past =
     go true e le = let lt : local q < private q = ltb-true (local q) (private q) e in absurd (omega arith)
     go false e le = refl
 
-either_right : (a : Bool) → (a || true) ≡ true
-either_right true = refl
-either_right false = refl
-
-in_any : (q : ℕ) (qs : List ℕ) → IsIn q qs → list_any (λ (r : ℕ). r == q) qs ≡ true
-in_any q [] never = absurd never
-in_any q (r ∷ rs) (inl e) = ap (λ (b : Bool). b || list_any (λ (s : ℕ). s == q) rs) (eq-eqb r q e)
-in_any q (r ∷ rs) (inr is) = ap (λ (b : Bool). (r == q) || b) (in_any q rs is) ∙ either_right (r == q)
-
-named_declared : (d : Decl) (q : ℕ) → IsSet d → IsIn q (named d) → 0 < weight d q
-named_declared (Decl.Set micros) q set is = some (declares (Decl.Set micros) q) (in_any q micros is)
-  where
-    some : (b : Bool) → b ≡ true → 0 < (if b then 1 else 0)
-    some true e = omega arith
-    some false e = cc
-named_declared (Decl.Bound bounds) q set is = absurd set
-named_declared (Decl.Route vertices roots edges) q set is = absurd set
-
-ended-left : (P : Play) (core : Core) (k : ℕ) → Invariant P core → k < core.count → IsSet (P.decl k) → core.ended k ≡ true → left_of P core k ≤ 1
-ended-left P core k i lt set ended =
+ended-left : (script : Script) (P : Play) (core : Core) (k : ℕ) → Invariant P core → k < core.count → IsDeclOf script (P.decl k) → core.ended k ≡ true → left_of P core k ≤ 1
+ended-left script P core k i lt known ended =
     let d : IsDone P core k = i.ended k lt ended in
     let made : turns P k ≤ core.made k = all_made P core k i lt ended in
     let home : home_of P core k (next_step (core.comp k)) ≤ suc zero = home-most P core k (next_step (core.comp k)) in
     let short : shorts (core.private k (P.node k)) (core.local (P.node k)) (named (P.decl k)) ≡ zero =
     no_shorts (core.private k (P.node k)) (core.local (P.node k)) (named (P.decl k)) (λ q is.
     let private = i.booked.private k (P.node k) q lt in
-    let past = d.past q (named_declared (P.decl k) q set is) in
+    let past = d.past q (named_declared script (P.decl k) q known is) in
     omega (arith, private, past)) in
     let end : to_end (core.ended k) ≡ zero = ap to_end ended in
     omega (arith, made, home, short, end)
@@ -83,10 +64,10 @@ unfolding one
 ones zero = refl
 ones (suc n) = let rest : sum_to one n ≡ n = ones n in omega (arith, rest)
 
-pub ended-come : (P : Play) (core : Core) → Invariant P core → ((k : ℕ) → k < core.count → IsSet (P.decl k)) → AllEnded core → to_come P core ≤ 3 * core.count
+pub ended-come : (script : Script) (P : Play) (core : Core) → Invariant P core → ((k : ℕ) → k < core.count → IsDeclOf script (P.decl k)) → AllEnded core → to_come P core ≤ 3 * core.count
 unfolding one
-ended-come P core i sets all =
-    let lefts : left P core ≤ sum_to one core.count = sum-le (left_of P core) one core.count (λ j lt. ended-left P core j i lt (sets j lt) (all j lt)) in
+ended-come script P core i known all =
+    let lefts : left P core ≤ sum_to one core.count = sum-le (left_of P core) one core.count (λ j lt. ended-left script P core j i lt (known j lt) (all j lt)) in
     let spares : sum_to (spare_of P core) core.count ≤ sum_to one core.count = sum-le (spare_of P core) one core.count (λ j lt. spare-most core.stopped _) in
     let count : sum_to one core.count ≡ core.count = ones core.count in
     omega (arith, lefts, spares, count)

@@ -3,6 +3,7 @@ use Rattle.std.proofs.Common.{arith, ◌≡◌, ℕ, ◌<◌, ◌≤◌, refl, s
 use Rattle.std.specs.Prelude.{is_some, option_map}
 use Rattle.samoa_model.specs.declared.handler.Moment.{Moment}
 use Rattle.samoa_model.specs.declared.ids.MicroId.{MicroId}
+use Rattle.samoa_model.specs.Range.{IsInRange}
 use Rattle.samoa_serial.specs.declared.call.Call.{Call}
 use Rattle.samoa_serial.specs.Alone.{next_step}
 use Rattle.samoa_serial.specs.Calls.{Computation}
@@ -13,10 +14,11 @@ use Rattle.samoa_invariant.specs.State as model
 use Rattle.samoa_invariant.specs.Runs.{IsRun, Trace, ext_at, play, state}
 use Rattle.samoa_invariant.proofs.Accepts.{meets_declared}
 use Rattle.samoa_invariant.proofs.Traces.{count-few, invariant}
-use Rattle.samoa_core.specs.Known.{DeclaresKnown, decl_number}
+use Rattle.samoa_core.specs.Known.{decl_number}
 use Rattle.samoa_core.specs.Places.{unless_out}
 use Rattle.samoa_core.specs.Since.{cleared_comps}
 use Rattle.samoa_core.specs.Kept.{Fields, Kept, trace_of}
+use Rattle.samoa_core.proofs.Declares.{declares_known}
 
 -- no more than 100,000 were admitted
 pub few : (fs : Fields) → Kept fs → length fs.exts ≤ 100000
@@ -25,15 +27,15 @@ few fs kept =
     let all : (state (trace_of fs)).count ≡ length fs.exts = kept.holds.admitted in
     omega (arith, most, all)
 
--- a core of a script whose declarations name what is there, in which all that came were admitted
+-- a core of a script in range, in which all that came were admitted
 pub record IsSound (t : Trace) : Type 0 where
   pub run : IsRun t
   pub all : (state t).count ≡ length t.exts
-  pub declares : DeclaresKnown t.script
+  pub in_range : IsInRange t.script
   pub past : (k : ℕ) → k < cleared_comps t → (state t).ended k ≡ true
 
 pub sound : (fs : Fields) → Kept fs → IsSound (trace_of fs)
-sound fs kept = record { run = kept.is_run; all = kept.holds.admitted; declares = kept.declares; past = λ k lt. kept.holds.past k (subst (λ (n : ℕ). k < n) (sym kept.first) lt) }
+sound fs kept = record { run = kept.is_run; all = kept.holds.admitted; in_range = kept.in_range; past = λ k lt. kept.holds.past k (subst (λ (n : ℕ). k < n) (sym kept.first) lt) }
 
 -- the next handler step is at a microprotocol of the stack
 pub next-within : (t : Trace) (k : ℕ) (c : Call) (m : Moment) → IsSound t → k < length t.exts
@@ -42,7 +44,7 @@ next-within t k c m sound lt next =
     let i : Invariant (play t) (state t) = invariant t sound.run in
     let all : (state t).count ≡ length t.exts = sound.all in
     let below : k < (state t).count = omega (arith, lt, all) in
-    sound.declares (decl_number t.script (ext_at t.exts k)) c.handler.micro.0
+    declares_known t.script sound.in_range (decl_number t.script (ext_at t.exts k)) c.handler.micro.0
     (meets_declared (play t) k ((state t).made k) c m (sym (ap next_step (i.calls.comp k below)) ∙ next))
 
 -- the call of a next moment

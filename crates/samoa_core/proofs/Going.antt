@@ -1,15 +1,15 @@
 -- What each handler step keeps of the fields of a core.
-use Rattle.std.proofs.Common.{arith, ◌≡◌, ◌≢◌, ◌⊎◌, inl, inr, ℕ, zero, ◌+◌, ◌-◌, ◌*◌, ◌<◌, ◌≤◌, refl, sym, ap, subst, ◌∙◌, List, [], ◌∷◌, length, set, Bool, true, Option, Some, None}
+use Rattle.std.proofs.Common.{arith, ◌≡◌, ◌≢◌, ◌⊎◌, inl, inr, ℕ, ◌+◌, ◌-◌, ◌*◌, ◌^◌, ◌<◌, ◌≤◌, refl, sym, ap, subst, ◌∙◌, List, [], ◌∷◌, length, get_or, set, Bool, true, Option, Some, None}
 use Rattle.std.specs.Prelude.{slice_get}
-use Rattle.samoa_model.specs.Range.{IsSet}
+use Rattle.std.specs.Option.{IfSome}
+use Rattle.samoa_model.specs.Allowed.{weight}
 use Rattle.samoa_model.specs.Scripts.{Table, first_table}
 use Rattle.samoa_model.specs.declared.handler.Moment.{Moment}
 use Rattle.samoa_model.specs.declared.handler.Outcome.{Outcome}
 use Rattle.samoa_model.specs.declared.record.Step.{Step}
-use Rattle.samoa_model.specs.declared.script.Decl.{Decl}
 use Rattle.samoa_model.specs.declared.script.Script.{Script}
-use Rattle.samoa_calls.specs.Held.{Held}
-use Rattle.samoa_calls.specs.Handed.{AreNamed, IsNamed, next_moment}
+use Rattle.samoa_calls.specs.Held.{Held, handlers_of}
+use Rattle.samoa_calls.specs.Handed.{AreNamed, IsNamed, ended_at, next_moment}
 use Rattle.samoa_model.specs.declared.ids.MicroId.{MicroId}
 use Rattle.samoa_serial.specs.declared.call.Active.{Active}
 use Rattle.samoa_serial.specs.declared.call.Call.{Call}
@@ -20,25 +20,29 @@ use Rattle.samoa_serial.specs.State.{State}
 use Rattle.samoa_serial.specs.World.{attempts_of}
 use Rattle.samoa_invariant.specs.Inv.{Invariant, IsDone, IsOutRightly}
 use Rattle.samoa_invariant.specs.Play.{Play, point}
-use Rattle.samoa_invariant.specs.Slots.{At, put_at}
+use Rattle.samoa_invariant.specs.Slots.{put_at}
 use Rattle.samoa_invariant.specs.State as model
 use Rattle.samoa_invariant.specs.State.{put}
 use Rattle.samoa_invariant.specs.Runs.{IsDue, IsRun, Trace, after_step as stepped, ext_at, play, state, with_step}
+use Rattle.samoa_invariant.proofs.Accepts.{meets_declared}
+use Rattle.samoa_invariant.proofs.Bounds.{head_is}
 use Rattle.samoa_invariant.proofs.Progress.{ended_stays}
-use Rattle.samoa_invariant.proofs.Slots.{put-else, put-here, put_at-else, put_at-here, slot_or_not}
+use Rattle.samoa_invariant.proofs.Slots.{put-else, put-here, put_at-else, put_at-here}
 use Rattle.samoa_invariant.proofs.Versions.{same_or_not}
 use Rattle.samoa_invariant.proofs.Traces.{invariant, state-step}
+use Rattle.samoa_core.specs.Forms.{risen}
 use Rattle.samoa_core.specs.Known.{decl_number}
 use Rattle.samoa_core.specs.Places.{seen_in, slot_in, unless_out}
 use Rattle.samoa_core.specs.Since.{cleared_comps}
 use Rattle.samoa_core.specs.Slots.{Grid, Row, Slotted}
 use Rattle.samoa_core.specs.Turns.{Going, HasCome, IsAway, IsNext, IsReady, box_of, taken}
 use Rattle.samoa_core.specs.Kept.{Fields, Kept, held_of, trace_of}
-use Rattle.samoa_core.proofs.Grids.{grid-put, grid-same, grid-set, row-set}
+use Rattle.samoa_core.proofs.Grids.{grid-put, grid-set, grid-within, row-set}
 use Rattle.samoa_core.proofs.Keeps.{Stands, kept-with, moved}
 use Rattle.samoa_core.proofs.Names.{named_step}
 use Rattle.samoa_core.proofs.Facts.{IsCallOf, IsSound, call_of, next-within, sound}
-use Rattle.samoa_core.proofs.Rules.{decl-set, decl-within, table-of}
+use Rattle.samoa_core.proofs.Rising.{grid-risen, local-small}
+use Rattle.samoa_core.proofs.Rules.{decl-within, table-of}
 use Rattle.samoa_core.proofs.Toll.{IsOutAt, out_at}
 
 -- one item of a row that begins later is put
@@ -149,11 +153,6 @@ some-active : (xs : List Active) (c : Call) (m : Moment) → next_of xs ≡ Some
 some-active [] c m e = cc
 some-active (a ∷ rest) c m e = (a, rest, refl)
 
-set_raise : (d : Decl) (o : Outcome) → IsSet d → model.raise d o ≡ zero
-set_raise (Decl.Set micros) o set = refl
-set_raise (Decl.Bound bounds) o set = absurd set
-set_raise (Decl.Route vertices roots edges) o set = refl
-
 -- what is out for a computation hasn't ended
 ended-home : (P : Play) (core : model.Core) (k v p : ℕ) → Invariant P core → core.out v p ≡ Some k → core.ended k ≡ true → ⊥
 ended-home P core k v p i out ended =
@@ -214,29 +213,69 @@ ready fs comp h kept since can is =
     subst (λ (x : Held). IsReady fs.script x) (sym here) (record {
       decl = decl-within fs.script (ext_at fs.exts k) kept.in_range (kept.known k lt);
       active = some-active ((state t).comp k).active o.call o.moment o.next;
+      listed = refl;
       named = kept.holds.named k (omega arith) lt;
     })
 
-put-zero : (f : At ℕ) (v p z i j : ℕ) → z ≡ zero → put_at f v p (f v p + z) i j ≡ f i j
-put-zero f v p z i j e = go (slot_or_not i v j p)
-  where
-    go : ((i ≡ v) × (j ≡ p)) ⊎ ((i ≢ v) ⊎ (j ≢ p)) → put_at f v p (f v p + z) i j ≡ f i j
-    go (inl same) =
-        let there : f i j ≡ f v p = ap (λ (a : ℕ). f a j) same.0 ∙ ap (λ (b : ℕ). f v b) same.1 in
-        let more : f v p + z ≡ f v p = omega (arith, e) in
-        put_at-here {A = ℕ} f v p i j (f v p + z) same.0 same.1 ∙ (more ∙ sym there)
-    go (inr ne) = put_at-else {A = ℕ} f v p i j (f v p + z) ne
+-- a computation is in its place
+pub comp-there : (fs : Fields) (comp : ℕ) → Kept fs → fs.first < comp → comp - 1 < length fs.exts
+    → slice_get fs.comps (comp - 1 - fs.first) ≡ Some (held_of fs.script fs.exts (state (trace_of fs)) (comp - 1))
+comp-there fs comp kept since lt =
+    let at : fs.first + (comp - 1 - fs.first) ≡ comp - 1 = omega arith in
+    kept.holds.comps.value (comp - 1 - fs.first) (omega arith) ∙ ap (λ (j : ℕ). Some (held_of fs.script fs.exts (state (trace_of fs)) j)) at
+
+-- the call that a handler step completes is that of the step
+pub completes : (fs : Fields) (comp p : ℕ) (held : Seen) (o : Outcome) (completed : Option MicroId) → Kept fs → (come : HasCome (trace_of fs) comp p held o)
+    → fs.first < comp → comp - 1 < length fs.exts
+    → ((h : Held) (a : Active) (rest : List Active) → slice_get fs.comps (comp - 1 - fs.first) ≡ Some h → h.comp.active ≡ a ∷ rest → completed ≡ ended_at a.call o)
+    → completed ≡ ended_at come.call o
+completes fs comp p held o completed kept come since lt each =
+    let head = head_is ((state (trace_of fs)).comp (comp - 1)) come.call come.moment come.next in
+    each (held_of fs.script fs.exts (state (trace_of fs)) (comp - 1)) head.0 head.1 (comp-there fs comp kept since lt) head.2
+    ∙ ap (λ (c : Call). ended_at c o) head.3
+
+-- a completed call has its place among the local versions, which is far from the end of its range
+pub record HasPlace (fs : Fields) (v : ℕ) (completed : Option MicroId) : Type 0 where
+  pub there : IfSome completed (λ (micro : MicroId). v * length fs.script.micros + micro.0 < length fs.local)
+  pub small : IfSome completed (λ (micro : MicroId). get_or fs.local (v * length fs.script.micros + micro.0) 0 + 1 < 2 ^ 64)
+
+if_ended : (c : Call) (o : Outcome) (P : MicroId → Type 0) → P c.handler.micro → IfSome (ended_at c o) P
+if_ended c (Outcome.Done reply) P h = h
+if_ended c (Outcome.Call event arg frame) P h = tt
+if_ended c (Outcome.Later event arg frame) P h = tt
+if_ended c (Outcome.Send to event arg frame) P h = tt
+if_ended c (Outcome.Deliver arg frame) P h = tt
+if_ended c (Outcome.Change change arg frame) P h = tt
+
+pub has-place : (fs : Fields) (comp p : ℕ) (held : Seen) (o : Outcome) (completed : Option MicroId) → Kept fs → (come : HasCome (trace_of fs) comp p held o)
+    → comp - 1 < length fs.exts → p < length fs.script.micros → completed ≡ ended_at come.call o → HasPlace fs ((play (trace_of fs)).node (comp - 1)) completed
+has-place fs comp p held o completed kept come lt below is =
+    let v : ℕ = (play (trace_of fs)).node (comp - 1) in
+    let q : ℕ = come.call.handler.micro.0 in
+    let inside : q < length fs.script.micros = subst (λ (r : ℕ). r < length fs.script.micros) (sym come.is_at) below in
+    let node : v < fs.script.nodes = node-within fs (comp - 1) kept lt in
+    let within : v * length fs.script.micros + q < fs.script.nodes * length fs.script.micros = grid-within fs.script.nodes (length fs.script.micros) v q node inside in
+    let size : length fs.local ≡ fs.script.nodes * length fs.script.micros = kept.holds.local.size in
+    let most : get_or fs.local (v * length fs.script.micros + q) 0 ≤ 25600000 = local-small fs v q kept node inside in
+    let here : HasPlace fs v (ended_at come.call o) = record {
+      there = if_ended come.call o (λ (micro : MicroId). v * length fs.script.micros + micro.0 < length fs.local) (omega (arith, within, size));
+      small = if_ended come.call o (λ (micro : MicroId). get_or fs.local (v * length fs.script.micros + micro.0) 0 + 1 < 2 ^ 64) (omega (arith, most));
+    } in
+    subst (λ (m : Option MicroId). HasPlace fs v m) (sym is) here
 
 place : (first comp : ℕ) → first < comp → first + (comp - 1 - first) ≡ comp - 1
 place first comp lt = omega arith
+
+-- a computation as it is held
+abbrev pub held_with : Script → ℕ → Computation → Held
+held_with script number comp = record { decl = number; comp = comp; waiting_handlers = handlers_of (first_table script) comp.waiting }
 
 -- the others are as they were
 comp-else : (fs : Fields) (core : model.Core) (c : Call) (m : Moment) (k i : ℕ) → fs.first ≤ k → i ≢ k - fs.first
     → held_of fs.script fs.exts (model.leave_at (play (trace_of fs)) core k c m) (fs.first + i) ≡ held_of fs.script fs.exts core (fs.first + i)
 comp-else fs core c m k i le ne =
     let other : fs.first + i ≢ k = (λ e. ne (omega arith)) in
-    let number : ℕ = decl_number fs.script (ext_at fs.exts (fs.first + i)) in
-    ap (λ (x : Computation). let h : Held = record { decl = number; comp = x } in h) (put-else {A = Computation} core.comp k (fs.first + i) _ other)
+    ap (λ (x : Computation). held_with fs.script (decl_number fs.script (ext_at fs.exts (fs.first + i))) x) (put-else {A = Computation} core.comp k (fs.first + i) _ other)
 
 slot-back : (script : Script) (core : model.Core) (v p i j : ℕ) (s : State) → (i ≢ v) ⊎ (j ≢ p)
     → unless_out (put_at core.out v p None i j) (seen_in script i j (put_at core.boxes v p s i j)) ≡ slot_in script core i j
@@ -267,12 +306,21 @@ taken-is fs k c m o kept lt gives =
     ap (λ (x : Outcome). take_outcome (attempts_of (P.decl k) (first_table fs.script)) (core.comp k) x) gives
     ∙ (ap (λ (x : Table). take_outcome (attempts_of (P.decl k) x) (core.comp k) new) (sym table)
     ∙ sym (put-here {A = Computation} core.comp k k (take_outcome (attempts_of (P.decl k) (core.table k)) (core.comp k) new) refl)) in
-    ap (λ (x : Computation). let h : Held = record { decl = number; comp = x } in h) comp
+    ap (λ (x : Computation). held_with fs.script number x) comp
 
-pub kept-leave : (fs : Fields) (comp p : ℕ) (held : Seen) (o : Outcome) (new : Held) → Kept fs → IsDue (trace_of fs) (Step.Leave comp) → HasCome (trace_of fs) comp p held o
+-- the next handler step is at a microprotocol of its declaration
+pub next-declared : (fs : Fields) (k : ℕ) (c : Call) (m : Moment) → Kept fs → k < (state (trace_of fs)).count → next_step ((state (trace_of fs)).comp k) ≡ Some (c, m)
+    → 0 < weight ((play (trace_of fs)).decl k) c.handler.micro.0
+next-declared fs k c m kept lt next =
+    let t : Trace = trace_of fs in
+    let i : Invariant (play t) (state t) = invariant t kept.is_run in
+    meets_declared (play t) k ((state t).made k) c m (sym (ap next_step (i.calls.comp k lt)) ∙ next)
+
+pub kept-leave : (fs : Fields) (comp p : ℕ) (held : Seen) (o : Outcome) (new : Held) → Kept fs → IsDue (trace_of fs) (Step.Leave comp) → (come : HasCome (trace_of fs) comp p held o)
     → fs.first < comp → p < length fs.script.micros
     → new ≡ taken fs.script (held_of fs.script fs.exts (state (trace_of fs)) (comp - 1)) o → AreNamed (first_table fs.script) new.comp.waiting
-    → Kept (moved fs (Step.Leave comp) fs.local
+    → Kept (moved fs (Step.Leave comp)
+    (risen ((play (trace_of fs)).decl (comp - 1)) (length fs.script.micros) ((play (trace_of fs)).node (comp - 1)) (ended_at come.call o) fs.local)
     (record fs.slots { boxes = set fs.slots.boxes ((play (trace_of fs)).node (comp - 1) * fs.slots.micros + p) (Some held) })
     (set fs.comps (comp - 1 - fs.first) new) fs.ended fs.stopped)
 kept-leave fs comp p held o new kept due come since below is_new named =
@@ -301,15 +349,17 @@ kept-leave fs comp p held o new kept due come since below is_new named =
     (subst (λ (r : ℕ). Grid fs.script.nodes (length fs.script.micros) (set fs.slots.boxes (v * length fs.script.micros + r) (Some (seen_in fs.script v q result.0))) (slot_in fs.script after)) at grid) in
     let same : new ≡ held_of fs.script fs.exts after k = is_new ∙ taken-is fs k c m o kept out.admitted gives in
     let slots : Slotted = record fs.slots { boxes = set fs.slots.boxes (v * fs.slots.micros + p) (Some held) } in
-    let next : Fields = moved fs (Step.Leave comp) fs.local slots (set fs.comps (k - fs.first) new) fs.ended fs.stopped in
+    let local : List ℕ = risen (P.decl k) (length fs.script.micros) v (ended_at c o) fs.local in
+    let risen_grid : Grid fs.script.nodes (length fs.script.micros) (risen (P.decl k) (length fs.script.micros) v (ended_at c result.1) fs.local) after.local =
+    grid-risen (P.decl k) c result.1 fs.script.nodes (length fs.script.micros) fs.local core.local v (node-within fs k kept lt) inside
+    (next-declared fs k c m kept out.admitted come.next) kept.holds.local in
+    let next : Fields = moved fs (Step.Leave comp) local slots (set fs.comps (k - fs.first) new) fs.ended fs.stopped in
     let stands : Stands next after = record {
       admitted = kept.holds.admitted;
       held = kept.holds.held;
       within = kept.holds.within;
       global = kept.holds.global;
-      local = grid-same fs.script.nodes (length fs.script.micros) fs.local core.local after.local
-          (λ i j. put-zero core.local v q (model.raise (P.decl k) result.1) i j (set_raise (P.decl k) result.1 (decl-set fs.script (ext_at fs.exts k) kept.in_range kept.built (kept.known k lt))))
-          kept.holds.local;
+      local = subst (λ (x : Outcome). Grid fs.script.nodes (length fs.script.micros) (risen (P.decl k) (length fs.script.micros) v (ended_at c x) fs.local) after.local) (sym gives) risen_grid;
       slots = rw kept.micros grid_here;
       private = kept.holds.private;
       comps = row-set (length fs.exts - fs.first) fs.comps (λ i. held_of fs.script fs.exts core (fs.first + i)) (λ i. held_of fs.script fs.exts after (fs.first + i)) (k - fs.first) new
@@ -319,7 +369,7 @@ kept-leave fs comp p held o new kept due come since below is_new named =
       named = λ j le less. names same j le less (same_or_not j k);
       stopped = kept.holds.stopped;
     } in
-    kept-with fs (Step.Leave comp) fs.local slots (set fs.comps (k - fs.first) new) fs.ended fs.stopped kept due tt kept.micros
+    kept-with fs (Step.Leave comp) local slots (set fs.comps (k - fs.first) new) fs.ended fs.stopped kept due tt kept.micros
     (subst (λ (x : model.Core). Stands next x) (sym is) stands)
   where
     names : new ≡ held_of fs.script fs.exts (model.leave_at (play (trace_of fs)) (state (trace_of fs)) (comp - 1) come.call come.moment) (comp - 1)

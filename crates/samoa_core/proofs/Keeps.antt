@@ -13,7 +13,6 @@ use Rattle.samoa_calls.specs.Handed.{AreNamed}
 use Rattle.samoa_invariant.specs.State as model
 use Rattle.samoa_invariant.specs.Runs.{IsDue, IsRun, Trace, after_step, model_step, opening_trace, play, state}
 use Rattle.samoa_invariant.proofs.Traces.{invariant, is_run-with_step, opening_is_run, state-step}
-use Rattle.samoa_core.specs.Known.{DeclaresKnown}
 use Rattle.samoa_core.specs.Places.{slot_in}
 use Rattle.samoa_core.specs.Room.{to_come}
 use Rattle.samoa_core.specs.Slots.{Grid, Row, Slotted, row_of, rows_of, set_up_at}
@@ -54,14 +53,13 @@ new_fields script tables slots global local cells clears_room journal_room = rec
 
 -- a core that was just made
 pub kept-new : (script : Script) (tables : List (List Table)) (slots : Slotted) (global local : List ℕ) (cells clears_room journal_room : ℕ)
-    → IsInRange script → IsBuilt script → DeclaresKnown script
+    → IsInRange script → IsBuilt script
     → tables ≡ first_tables script → slots ≡ record { micros = length script.micros; boxes = rows_of script script.nodes }
     → global ≡ replicate (script.nodes * length script.micros) 0 → local ≡ replicate (script.nodes * length script.micros) 0
     → Kept (new_fields script tables slots global local cells clears_room journal_room)
-kept-new script tables slots global local cells clears_room journal_room in_range built declares is_tables is_slots is_global is_local = record {
+kept-new script tables slots global local cells clears_room journal_room in_range built is_tables is_slots is_global is_local = record {
   in_range = in_range;
   built = built;
-  declares = declares;
   tables = is_tables;
   micros = ap (λ (s : Slotted). s.micros) is_slots;
   known = λ k lt. absurd (omega (arith, lt));
@@ -156,7 +154,6 @@ kept-with fs step local slots comps ended stopped kept due fit micros stands =
     record {
       in_range = kept.in_range;
       built = kept.built;
-      declares = kept.declares;
       tables = kept.tables;
       micros = micros;
       known = kept.known;

@@ -6,6 +6,8 @@ pub mod Going
 pub mod Names
 pub mod Options
 pub mod Picked
+pub mod Quiets
+pub mod Rising
 pub mod Rules
 pub mod Settling
 pub mod Since

@@ -2,8 +2,9 @@
 use Rattle.std.proofs.Common.{◌≡◌, ◌<◌, ◌≤◌, ◌⊎◌, inl, inr, ℕ, zero, suc, ◌+◌, List, [], ◌∷◌, drop, length, Option, Some, None, sym, ap, subst, arith}
 use Rattle.std.specs.Prelude.{slice_get, slice_index}
 use Rattle.std.proofs.lemmas.List.{get_or_past, length-map}
-use Rattle.std.proofs.lemmas.List.Elements.{All-get_or}
+use Rattle.std.proofs.lemmas.List.Elements.{All-get_or, All-map, All-weaker}
 use Rattle.samoa_model.specs.declared.ids.EventId.{EventId}
+use Rattle.samoa_model.specs.declared.ids.HandlerId.{HandlerId}
 use Rattle.samoa_model.specs.declared.handler.Moment.{Moment}
 use Rattle.samoa_model.specs.declared.handler.Moment.TheVariants.{Begin, Resume}
 use Rattle.samoa_model.specs.declared.setup.Kind.{Kind}
@@ -15,10 +16,10 @@ use Rattle.samoa_model.specs.declared.script.MicroDef.{MicroDef}
 use Rattle.samoa_model.specs.declared.script.EventDef.{EventDef}
 use Rattle.samoa_model.specs.declared.script.Script.{Script}
 use Rattle.samoa_model.specs.Scripts.{Table, first_table, micro_at, setup_of, no_micro}
-use Rattle.samoa_model.specs.Range.{IsInRange, IsMicroInRange, IsEventOf}
+use Rattle.samoa_model.specs.Range.{IsEventInRange, IsInRange, IsMicroInRange, IsEventOf}
 use Rattle.samoa_serial.specs.State.{State, Registers, Blank}
 use Rattle.samoa_serial.specs.Kinds.{Numbers, port_at, carry_out, run_from, script_step, kind_step, first_four, waited, resumed}
-use Rattle.samoa_calls.specs.Handed.{IsNamed}
+use Rattle.samoa_calls.specs.Handed.{AreCounted, IsCounted, IsNamed}
 
 -- each port is an event of the table
 abbrev pub PortsNamed : Table → Setup → Type 0
@@ -104,3 +105,12 @@ named_step script node p state moment in_range =
     named-kind (first_table script) (setup_of script node p)
     (λ port. let known : (port_at (setup_of script node p) port).0 < length script.events = micro_known script p in_range port in omega (arith, known, as_many_events script))
     (micro_at script p).kind state moment
+
+-- the handlers of the script's events are at microprotocols that a bound can count
+pub counted : (script : Script) → IsInRange script → IsCounted (first_table script)
+counted script in_range =
+    All-map AreCounted (λ (e : EventDef). e.handlers) script.events
+    (All-weaker (IsEventInRange script) (λ (e : EventDef). AreCounted e.handlers)
+    (λ e has. All-weaker (λ (h : HandlerId). h.micro.0 < length script.micros) (λ (h : HandlerId). h.micro.0 < 24)
+    (λ h lt. let few : length script.micros ≤ 24 = in_range.few_micros in omega (arith, lt, few)) e.handlers has.handlers.known)
+    script.events in_range.events)

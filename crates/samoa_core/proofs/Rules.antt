@@ -8,7 +8,7 @@ use Rattle.samoa_model.specs.declared.record.Ext.{Ext}
 use Rattle.samoa_model.specs.declared.script.ChangeDef.{ChangeDef}
 use Rattle.samoa_model.specs.declared.script.DeclDef.{DeclDef}
 use Rattle.samoa_model.specs.declared.script.Script.{Script}
-use Rattle.samoa_model.specs.Range.{IsInRange, IsBuilt, IsExtOf, IsCauseOf, IsChangeInRange, IsEventInRange, IsEventOf, IsSet}
+use Rattle.samoa_model.specs.Range.{IsInRange, IsBuilt, IsExtOf, IsCauseOf, IsChangeInRange, IsDeclOf, IsEventInRange, IsEventOf}
 use Rattle.samoa_model.specs.Scripts.{Table, rebound, caused, change_at, decl_of, event_at, root_of, no_change, no_decl, no_event, first_table}
 use Rattle.samoa_invariant.specs.Play.{table_at, table_of}
 use Rattle.samoa_invariant.specs.Runs.{Trace, ext_at, play}
@@ -40,6 +40,6 @@ decl-within script ext in_range known = go ext.cause known.cause
     go (Event event) lt = at event lt
     go (Change change) lt = at (change_at script change.0).event (All-get_or (IsChangeInRange script) script.changes change.0 no_change lt in_range.changes).event
 
-pub decl-set : (script : Script) (ext : Ext) → IsInRange script → IsBuilt script → IsExtOf script ext → IsSet (decl_of script ext).decl
-decl-set script ext in_range built known =
-    All-get_or (λ (d : DeclDef). IsSet d.decl) script.decls (decl_number script ext) no_decl (decl-within script ext in_range known) built.sets
+pub decl-of : (script : Script) (ext : Ext) → IsInRange script → IsExtOf script ext → IsDeclOf script (decl_of script ext).decl
+decl-of script ext in_range known =
+    All-get_or (λ (d : DeclDef). IsDeclOf script d.decl) script.decls (decl_number script ext) no_decl (decl-within script ext in_range known) in_range.decls

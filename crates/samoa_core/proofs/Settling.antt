@@ -2,28 +2,24 @@
 use Rattle.std.proofs.Common.{arith, ◌≡◌, ◌≢◌, ◌⊎◌, inl, inr, ℕ, zero, suc, ◌-◌, ◌<◌, ◌≤◌, refl, sym, ap, subst, ◌∙◌, [], ◌∷◌, ◌++◌, length, Bool, true, false, if◌then◌else◌}
 use Rattle.std.proofs.lemmas.Bool.{cases_eq}
 use Rattle.samoa_model.specs.Allowed.{weight}
-use Rattle.samoa_model.specs.Range.{IsBuilt, IsExtOf, IsInRange, IsSet}
+use Rattle.samoa_model.specs.Range.{IsInRange}
 use Rattle.samoa_model.specs.declared.record.Step.{Step}
 use Rattle.samoa_invariant.specs.State as model
 use Rattle.samoa_invariant.specs.Runs.{IsRun, Trace, ext_at, play, state, with_step}
 use Rattle.samoa_invariant.proofs.Settles.{end_ends, end_releases, release_enables}
 use Rattle.samoa_invariant.proofs.Slots.{put_at-here}
 use Rattle.samoa_invariant.proofs.Traces.{invariant, is_run-with_step, state-step}
-use Rattle.samoa_core.specs.Known.{DeclaresKnown, decl_number}
+use Rattle.samoa_core.specs.Known.{decl_number}
 use Rattle.samoa_core.specs.Scans.{IsStill, ends, finished, may_end, may_release, released, releases, releases_of, settled, with_journal}
-use Rattle.samoa_core.proofs.Rules.{decl-set}
+use Rattle.samoa_core.proofs.Declares.{declares_known}
 use Rattle.samoa_core.proofs.Tests.{can-end-may, can-may, may-can, may-end}
 
--- what is known of the declarations, of sets alone
+-- what is declared is of the stack
 pub record IsFit (t : Trace) : Type 0 where
-  pub sets : (k : ℕ) → k < length t.exts → IsSet ((play t).decl k)
   pub within : (k p : ℕ) → 0 < weight ((play t).decl k) p → p < length t.script.micros
 
-pub fit : (t : Trace) → IsInRange t.script → IsBuilt t.script → DeclaresKnown t.script → ((k : ℕ) → k < length t.exts → IsExtOf t.script (ext_at t.exts k)) → IsFit t
-fit t in_range built declares known = record {
-  sets = λ k lt. decl-set t.script (ext_at t.exts k) in_range built (known k lt);
-  within = λ k p declared. declares (decl_number t.script (ext_at t.exts k)) p declared;
-}
+pub fit : (t : Trace) → IsInRange t.script → IsFit t
+fit t in_range = record { within = λ k p declared. declares_known t.script in_range (decl_number t.script (ext_at t.exts k)) p declared }
 
 pub record After (base : model.Core) (t : Trace) (k n : ℕ) : Type 0 where
   pub run : IsRun t
@@ -45,7 +41,7 @@ after-try base t comp n false e fit first lt a = record { run = a.run; admitted 
     go j q (inr h) can (inl same) =
         let here : model.CanRelease (play t) (state t) (comp - 1) n =
         subst (λ (r : ℕ). model.CanRelease (play t) (state t) (comp - 1) r) same (subst (λ (i : ℕ). model.CanRelease (play t) (state t) i q) h.0 can) in
-        let no : false ≡ true = sym e ∙ can-may (play t) (state t) (comp - 1) n (fit.sets (comp - 1) lt) here in
+        let no : false ≡ true = sym e ∙ can-may (play t) (state t) (comp - 1) n here in
         cc
 after-try base t comp n true e fit first lt a = record {
   run = is_run-with_step t (Step.Release comp n) a.run (record { number = first; enabled = can });
@@ -62,7 +58,7 @@ after-try base t comp n true e fit first lt a = record {
     below = let size : (state t).count ≡ length t.exts = a.admitted in omega (arith, lt, size)
 
     can : model.CanRelease (play t) (state t) (comp - 1) n
-    can = may-can (play t) (state t) (comp - 1) n below (fit.sets (comp - 1) lt) e
+    can = may-can (play t) (state t) (comp - 1) n below e
 
     same : state (with_step t (Step.Release comp n)) ≡ model.release (play t) (state t) (comp - 1) n
     same = state-step t (Step.Release comp n) a.run
@@ -89,7 +85,7 @@ after-of : (base : model.Core) (t : Trace) (comp n : ℕ) → IsFit t → 0 < co
 after-of base t comp zero fit first lt a = a
 after-of base t comp (suc n) fit first lt a =
     let u : Trace = with_journal t (releases_of t comp n) in
-    after-try base u comp n (may_release (play u) (state u) (comp - 1) n) refl (record { sets = fit.sets; within = fit.within }) first lt (after-of base t comp n fit first lt a)
+    after-try base u comp n (may_release (play u) (state u) (comp - 1) n) refl (record { within = fit.within }) first lt (after-of base t comp n fit first lt a)
 
 after-next : (base : model.Core) (t : Trace) (k : ℕ) → IsFit t → After base t k (length t.script.micros) → After base t (suc k) zero
 after-next base t k fit a = record { run = a.run; admitted = a.admitted; out = a.out; stopped = a.stopped; none = λ j q h can. go j q h can (cases_eq j k) }
@@ -106,12 +102,12 @@ after-all : (base : model.Core) (t : Trace) (n : ℕ) → IsFit t → n ≤ leng
 after-all base t zero fit le a = a
 after-all base t (suc n) fit le a =
     let u : Trace = with_journal t (releases t n) in
-    let fits : IsFit u = record { sets = fit.sets; within = fit.within } in
+    let fits : IsFit u = record { within = fit.within } in
     let here : After base u n zero = after-all base t n fit (omega (arith, le)) a in
     let last : After base (with_journal u (releases_of u (suc n) (length t.script.micros))) n (length t.script.micros) =
     subst (λ (k : ℕ). After base (with_journal u (releases_of u (suc n) (length t.script.micros))) k (length t.script.micros)) (place n)
     (after-of base u (suc n) (length t.script.micros) fits (omega arith) (omega (arith, le, place n)) (subst (λ (k : ℕ). After base u k zero) (sym (place n)) here)) in
-    after-next base (with_journal u (releases_of u (suc n) (length t.script.micros))) n (record { sets = fit.sets; within = fit.within }) last
+    after-next base (with_journal u (releases_of u (suc n) (length t.script.micros))) n (record { within = fit.within }) last
 
 pub record Released (base : model.Core) (t : Trace) : Type 0 where
   pub run : IsRun t
@@ -188,7 +184,7 @@ end-all base t zero fit le a = a
 end-all base t (suc n) fit le a =
     let u : Trace = with_journal t (ends t n) in
     let here : Ended base u n = end-all base t n fit (omega (arith, le)) a in
-    end-try base u (suc n) (may_end u (suc n - 1)) refl (record { sets = fit.sets; within = fit.within }) (omega arith) (omega (arith, le, place n))
+    end-try base u (suc n) (may_end u (suc n - 1)) refl (record { within = fit.within }) (omega arith) (omega (arith, le, place n))
     (subst (λ (k : ℕ). Ended base u k) (sym (place n)) here)
 
 pub none-ended : (t : Trace) → IsFit t → IsRun t → (state t).count ≡ length t.exts → Ended (state t) (finished t) (length t.exts)
@@ -215,7 +211,7 @@ pub settling : (t : Trace) → IsFit t → IsRun t → (state t).count ≡ lengt
 settling t fit run admitted =
     let u : Trace = released t in
     let r : Released (state t) u = none-released t fit run admitted in
-    let fits : IsFit u = record { sets = fit.sets; within = fit.within } in
+    let fits : IsFit u = record { within = fit.within } in
     let a : Ended (state u) (settled t) (length t.exts) = none-ended u fits r.run r.admitted in
     record {
       settled = record { released = a.none r.none; ended = no_end u fits r.run r.admitted };

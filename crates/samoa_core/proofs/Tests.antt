@@ -3,19 +3,18 @@ use Rattle.std.proofs.Common.{arith, ◌≡◌, ℕ, zero, suc, ◌+◌, ◌-◌
 use Rattle.std.specs.Prelude.{nat_le, nat_lt}
 use Rattle.std.proofs.lemmas.Bool.{leb-true, ltb-true, le-leb, lt-ltb, cases_eq}
 use Rattle.samoa_model.specs.Allowed.{weight}
-use Rattle.samoa_model.specs.Range.{IsSet}
-use Rattle.samoa_model.specs.Scripts.{Table}
 use Rattle.samoa_model.specs.declared.record.Step.{Step}
-use Rattle.samoa_model.specs.declared.script.Decl.{Decl}
 use Rattle.samoa_serial.specs.declared.call.Active.{Active}
 use Rattle.samoa_serial.specs.declared.call.Waiting.{Waiting}
 use Rattle.samoa_serial.specs.Calls.{Computation}
 use Rattle.samoa_invariant.specs.Inv.{Invariant, IsDone}
 use Rattle.samoa_invariant.specs.Play.{IsIdle, Play}
+use Rattle.samoa_invariant.specs.Settle.{is_quiet}
 use Rattle.samoa_invariant.specs.State as model
 use Rattle.samoa_invariant.specs.Runs.{Trace, play, state}
 use Rattle.samoa_invariant.proofs.Picks.{ready_enters}
 use Rattle.samoa_invariant.proofs.Progress.{ended_stays}
+use Rattle.samoa_invariant.proofs.Settled.{quiet-of, quiet-true}
 use Rattle.samoa_core.specs.Scans.{all_past, ended_to, ends, has_turn, is_idle, is_past, may_end, may_release, none_left, releases, releases_of, try_end, try_release, with_journal}
 
 and_parts : (a b : Bool) → (a && b) ≡ true → (a ≡ true) × (b ≡ true)
@@ -45,21 +44,12 @@ idle-is comp e = let both = idle_lists comp.active comp.waiting e in record { ac
 idle-true : (comp : Computation) → IsIdle comp → is_idle comp ≡ true
 idle-true comp i = ap (λ (xs : List Active). none_left xs comp.waiting) i.active ∙ ap (λ (ws : List Waiting). none_left [] ws) i.waiting
 
-quiet_set : (d : Decl) (table : Table) (comp : Computation) (p : ℕ) → IsSet d → IsIdle comp → model.Quiet d table comp p
-quiet_set (Decl.Set micros) table comp p set idle = idle
-quiet_set (Decl.Bound bounds) table comp p set idle = idle
-quiet_set (Decl.Route vertices roots edges) table comp p set idle = absurd set
-
-set_idle : (d : Decl) (table : Table) (comp : Computation) (p : ℕ) → IsSet d → model.Quiet d table comp p → IsIdle comp
-set_idle (Decl.Set micros) table comp p set q = q
-set_idle (Decl.Bound bounds) table comp p set q = absurd set
-set_idle (Decl.Route vertices roots edges) table comp p set q = absurd set
-
-pub may-can : (P : Play) (core : model.Core) (k p : ℕ) → k < core.count → IsSet (P.decl k) → may_release P core k p ≡ true → model.CanRelease P core k p
-may-can P core k p lt set e =
+pub may-can : (P : Play) (core : model.Core) (k p : ℕ) → k < core.count → may_release P core k p ≡ true → model.CanRelease P core k p
+may-can P core k p lt e =
     let v : ℕ = P.node k in
-    let a = and_parts (nat_lt zero (weight (P.decl k) p)) (has_turn (core.private k v p) (core.local v p) (weight (P.decl k) p) && is_idle (core.comp k)) e in
-    let b = and_parts (has_turn (core.private k v p) (core.local v p) (weight (P.decl k) p)) (is_idle (core.comp k)) a.1 in
+    let a = and_parts (nat_lt zero (weight (P.decl k) p))
+    (has_turn (core.private k v p) (core.local v p) (weight (P.decl k) p) && is_quiet (P.decl k) (core.table k) (core.comp k) p) e in
+    let b = and_parts (has_turn (core.private k v p) (core.local v p) (weight (P.decl k) p)) (is_quiet (P.decl k) (core.table k) (core.comp k) p) a.1 in
     let d = and_parts (nat_le (core.private k v p) (core.local v p + weight (P.decl k) p)) (nat_lt (core.local v p) (core.private k v p)) b.0 in
     record {
       turn = record {
@@ -68,15 +58,15 @@ may-can P core k p lt set e =
         from = leb-true (core.private k v p) (core.local v p + weight (P.decl k) p) d.0;
         below = ltb-true (core.local v p) (core.private k v p) d.1;
       };
-      quiet = quiet_set (P.decl k) (core.table k) (core.comp k) p set (idle-is (core.comp k) b.1);
+      quiet = quiet-true (P.decl k) (core.table k) (core.comp k) p b.1;
     }
 
-pub can-may : (P : Play) (core : model.Core) (k p : ℕ) → IsSet (P.decl k) → model.CanRelease P core k p → may_release P core k p ≡ true
-can-may P core k p set can =
+pub can-may : (P : Play) (core : model.Core) (k p : ℕ) → model.CanRelease P core k p → may_release P core k p ≡ true
+can-may P core k p can =
     let v : ℕ = P.node k in
     and_both _ _ (lt-ltb zero (weight (P.decl k) p) can.turn.declared)
     (and_both _ _ (and_both _ _ (le-leb (core.private k v p) (core.local v p + weight (P.decl k) p) can.turn.from) (lt-ltb (core.local v p) (core.private k v p) can.turn.below))
-    (idle-true (core.comp k) (set_idle (P.decl k) (core.table k) (core.comp k) p set can.quiet)))
+    (quiet-of (P.decl k) (core.table k) (core.comp k) p can.quiet))
 
 or_else : (a b : Bool) → (not a || b) ≡ true → a ≡ true → b ≡ true
 or_else true b e f = e
@@ -137,12 +127,12 @@ ended-released P core k p i ended can =
     let below : core.local (P.node k) p < core.private k (P.node k) p = can.turn.below in
     omega (arith, private, past, below)
 
-skip_release : (t : Trace) (k p : ℕ) → Invariant (play t) (state t) → k < (state t).count → IsSet ((play t).decl k) → (state t).ended k ≡ true
+skip_release : (t : Trace) (k p : ℕ) → Invariant (play t) (state t) → k < (state t).count → (state t).ended k ≡ true
     → may_release (play t) (state t) k p ≡ false
-skip_release t k p i lt set ended = go (may_release (play t) (state t) k p) refl
+skip_release t k p i lt ended = go (may_release (play t) (state t) k p) refl
   where
     go : (b : Bool) → may_release (play t) (state t) k p ≡ b → b ≡ false
-    go true e = absurd (ended-released (play t) (state t) k p i ended (may-can (play t) (state t) k p lt set e))
+    go true e = absurd (ended-released (play t) (state t) k p i ended (may-can (play t) (state t) k p lt e))
     go false e = refl
 
 skip_of : (t : Trace) (comp n : ℕ) → ((p : ℕ) → may_release (play t) (state t) (comp - 1) p ≡ false) → releases_of t comp n ≡ t.journal
@@ -155,14 +145,14 @@ place : (n : ℕ) → suc n - 1 ≡ n
 place n = omega arith
 
 -- a scan may begin past what has ended
-pub skip_releases : (t : Trace) (n : ℕ) → Invariant (play t) (state t) → n ≤ (state t).count → ((k : ℕ) → k < (state t).count → IsSet ((play t).decl k))
+pub skip_releases : (t : Trace) (n : ℕ) → Invariant (play t) (state t) → n ≤ (state t).count
     → ((k : ℕ) → k < n → (state t).ended k ≡ true) → releases t n ≡ t.journal
-skip_releases t zero i le sets ended = refl
-skip_releases t (suc n) i le sets ended =
-    ap (λ (xs : List Step). releases_of (with_journal t xs) (suc n) (length t.script.micros)) (skip_releases t n i (omega (arith, le)) sets (λ k lt. ended k (omega (arith, lt))))
+skip_releases t zero i le ended = refl
+skip_releases t (suc n) i le ended =
+    ap (λ (xs : List Step). releases_of (with_journal t xs) (suc n) (length t.script.micros)) (skip_releases t n i (omega (arith, le)) (λ k lt. ended k (omega (arith, lt))))
     ∙ skip_of t (suc n) (length t.script.micros)
     (λ p. subst (λ (k : ℕ). may_release (play t) (state t) k p ≡ false) (sym (place n))
-    (skip_release t n p i (omega (arith, le)) (sets n (omega (arith, le))) (ended n (omega arith))))
+    (skip_release t n p i (omega (arith, le)) (ended n (omega arith))))
 
 skip_end : (t : Trace) (k : ℕ) → (state t).ended k ≡ true → may_end t k ≡ false
 skip_end t k ended = ap (λ (b : Bool). not b && (is_idle ((state t).comp k) && all_past (play t) (state t) k (length t.script.micros))) ended

@@ -6,5 +6,6 @@ pub mod Turns
 pub mod Scans
 pub mod Room
 pub mod Slots
+pub mod Forms
 pub mod Kept
 pub mod Fields

@@ -1,7 +1,8 @@
 //! Admissions.
 ghost use Rattle.std.specs.Prelude.{◌≡◌, ℕ, ◌<◌, ◌≤◌, ◌+◌, ◌-◌, ◌*◌, ◌^◌, ◌++◌, ◌∷◌, [], length, get_or, set, IfOk, IfErr, OnOk, OnErr, vec_capacity};
+ghost use Rattle.samoa_model.specs.Allowed.{weight};
 ghost use Rattle.samoa_model.specs.Cells.{cells_of as computation_cells};
-ghost use Rattle.samoa_model.specs.Range.{IsBuilt, IsDeclOf, IsExtOf, IsInRange};
+ghost use Rattle.samoa_model.specs.Range.{IsBuilt, IsExtOf, IsInRange};
 ghost use Rattle.samoa_model.specs.declared.script.Decl.{Decl};
 ghost use Rattle.samoa_model.specs.declared.record.Step.{Step};
 ghost use Rattle.samoa_model.specs.Scripts.{decl_of};
@@ -159,7 +160,7 @@ fn begun(
 fn fresh_comp(alloc: Global, spare: Option<Comp>, decl: u32, budget: u32) -> Result<Comp, NoMemory>
     requires some { 1 ≤ budget }
     requires few { budget ≤ 256 }
-    ensures { IfOk result (λ comp. comp ≡ record { decl = decl; comp = fresh budget }) }
+    ensures { IfOk result (λ comp. comp ≡ record { decl = decl; comp = fresh budget; waiting_handlers = [] }) }
 {
     match spare {
         Some(comp) => comp.renewed(decl, budget),
@@ -211,6 +212,7 @@ fn take_versions(
     global: &mut Vec<u64>,
     private: &mut Vec<u64>,
 )
+    requires weights { (p : ℕ) → weight decl.now p ≤ 256 }
     requires there { node * columns + columns ≤ length global.old.items }
     requires small { (p : ℕ) → p < columns → get_or global.old.items (node * columns + p) 0 + 256 < 2 ^ 64 }
     requires few { columns ≤ 24 }
@@ -227,6 +229,7 @@ fn take_versions(
 }
 
 fn take_version(decl: &Decl, columns: usize, node: u32, micro: u32, global: &mut Vec<u64>) -> u64
+    requires light { weight decl.now micro ≤ 256 }
     requires there { node * columns + micro < length global.old.items }
     requires small { get_or global.old.items (node * columns + micro) 0 + 256 < 2 ^ 64 }
     ensures version { result ≡ version_after decl.now columns node global.old.items micro }

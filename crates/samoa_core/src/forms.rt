@@ -1,7 +1,12 @@
 //! What depends on the form of a declaration: what it weighs and names, when a microprotocol is released, and where a
 //! completed call raises a version.
 ghost use Rattle.std.specs.Prelude.{◌≡◌, length};
+ghost use Rattle.samoa_model.specs.Allowed.{weight};
+ghost use Rattle.samoa_model.specs.Scripts.{Table};
+ghost use Rattle.samoa_serial.specs.Calls.{Computation};
 ghost use Rattle.samoa_invariant.specs.State.{named};
+ghost use Rattle.samoa_invariant.specs.Settle.{is_quiet};
+ghost use Rattle.samoa_core.specs.Forms.{IsStanding, IsTestable, raises};
 
 use samoa_declare::{Standing, weight as weight_of};
 use samoa_model::{Decl, MicroId};
@@ -30,6 +35,10 @@ pub(crate) fn named_count(decl: &Decl) -> usize
 
 /// Whether a computation that has its turn at a microprotocol may be done with it.
 pub(crate) fn may_release<T: Standing>(decl: &Decl, standing: &T, micro: u32) -> bool
+    requires { IsTestable decl.now }
+    ensures { (table : Table) (comp : Computation)
+        → IsStanding table comp (T.active_handlers standing.now) (T.waiting_handlers standing.now)
+        → result ≡ is_quiet decl.now table comp micro }
 {
     let micro = MicroId(micro);
     match decl {
@@ -41,6 +50,8 @@ pub(crate) fn may_release<T: Standing>(decl: &Decl, standing: &T, micro: u32) ->
 
 /// Whether a call that is completed at a microprotocol raises its local version.
 pub(crate) fn raises(decl: &Decl, micro: MicroId) -> bool
+    requires { IsTestable decl.now }
+    ensures { result ≡ raises decl.now micro.0 }
 {
     match decl {
         Decl::Set { .. } => samoa_vca_basic::raises(decl, micro),

@@ -12,7 +12,7 @@ ghost use Rattle.samoa_core.specs.Turns.{HasCome, IsAway, IsNext, box_of};
 
 use crate::cells::note;
 use crate::kernel::Core;
-use crate::parts::{decl_in, decl_number, raise, take_in};
+use crate::parts::{raise, take_in};
 use crate::turn::{Ran, Turn};
 use samoa_micro::{Held, Micro};
 use samoa_model::{MicroId, Moment, Outcome, Step};
@@ -103,7 +103,7 @@ impl<B: Micro> Core<B> {
         let node = self.node(comp);
         let at = (comp - 1 - self.first) as usize;
         self.slots.put(node, micro, held);
-        let ended = take_in(
+        let completed = take_in(
             &mut self.comps,
             at,
             &self.script,
@@ -111,16 +111,8 @@ impl<B: Micro> Core<B> {
             node,
             outcome,
         );
-        if let Some(ended) = ended {
-            let number = decl_number(&self.script, &self.exts[comp as usize - 1]);
-            raise(
-                &decl_in(&self.script, number).decl,
-                &mut self.local,
-                self.script.micros.len(),
-                node,
-                ended,
-            );
-        }
+        let ext = &self.exts[comp as usize - 1];
+        raise(&self.script, ext, completed, &mut self.local);
         note(&mut self.journal, &mut self.promised, Step::Leave { comp });
     }
 

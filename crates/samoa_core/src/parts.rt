@@ -1,11 +1,13 @@
 //! The parts of a script that an admission is judged by.
-ghost use Rattle.std.specs.Prelude.{◌≡◌, ◌<◌, ◌≤◌, length, Some, slice_get, set};
+ghost use Rattle.std.specs.Prelude.{◌≡◌, ◌<◌, ◌≤◌, ◌+◌, ◌*◌, ◌^◌, List, ◌∷◌, length, Some, IfSome, get_or, slice_get, set};
 ghost use Rattle.samoa_model.specs.Cells.{cells_of as computation_cells};
 ghost use Rattle.samoa_model.specs.Range.{IsBuilt, IsCauseOf, IsExtOf, IsInRange};
 ghost use Rattle.samoa_model.specs.Scripts.{decl_at, decl_of, first_table, root_of as root_event};
 ghost use Rattle.samoa_bind.specs.Bound.{first_tables};
 ghost use Rattle.samoa_calls.specs.Held.{Held};
-ghost use Rattle.samoa_calls.specs.Handed.{AreNamed, IsNamed};
+ghost use Rattle.samoa_calls.specs.Handed.{AreNamed, IsNamed, ended_at};
+ghost use Rattle.samoa_serial.specs.declared.call.Active.{Active};
+ghost use Rattle.samoa_core.specs.Forms.{IsTestable, risen};
 ghost use Rattle.samoa_core.specs.Turns.{IsReady, taken};
 ghost use Rattle.samoa_core.specs.Known.{decl_number as declaration_number};
 
@@ -55,7 +57,8 @@ pub(crate) fn cells_of(script: &Script, ext: &Ext) -> u32
     16 * decl_in(script, number).budget + 16
 }
 
-/// A computation takes the outcome of its handler step.
+/// A computation takes the outcome of its handler step. Answers the microprotocol of the call that it completes, None
+/// exactly where it completes none.
 pub(crate) fn take_in(
     comps: &mut Vec<Comp>,
     at: usize,
@@ -73,6 +76,8 @@ pub(crate) fn take_in(
     requires named { IsNamed (first_table script.now) outcome }
     ensures taken { (h : Held) → slice_get comps.old.items at ≡ Some h
         → comps.new.items ≡ set comps.old.items at (taken script.now h outcome) }
+    ensures completed { (h : Held) (a : Active) (rest : List Active) → slice_get comps.old.items at ≡ Some h
+        → h.comp.active ≡ a ∷ rest → result ≡ ended_at a.call outcome }
     ensures named { (h : Held) → slice_get comps.old.items at ≡ Some h
         → AreNamed (first_table script.now) (taken script.now h outcome).comp.waiting }
 {
@@ -93,22 +98,43 @@ fn go_on(
     requires ready { IsReady script.now comp.old }
     requires named { IsNamed (first_table script.now) outcome }
     ensures taken { comp.new ≡ taken script.now comp.old outcome }
+    ensures completed { (a : Active) (rest : List Active) → comp.old.comp.active ≡ a ∷ rest
+        → result ≡ ended_at a.call outcome }
     ensures named { AreNamed (first_table script.now) comp.new.comp.waiting }
 {
     let decl = decl_in(script, comp.decl());
     comp.take_outcome(&decl.decl, tables, node, 0, outcome)
 }
 
-/// Raises the local version of a microprotocol at which a call was completed, where the declaration does so.
-pub(crate) fn raise(
+/// Raises the local version of the microprotocol at which a computation completed a call, if it completed one and its
+/// declaration does so.
+pub(crate) fn raise(script: &Script, ext: &Ext, completed: Option<MicroId>, local: &mut Vec<u64>)
+    requires in_range { IsInRange script.now }
+    requires known { IsExtOf script.now ext.now }
+    requires there { IfSome completed (λ micro. ext.now.node.0 * length script.now.micros + micro.0 < length local.old.items) }
+    requires small { IfSome completed (λ micro. get_or local.old.items (ext.now.node.0 * length script.now.micros + micro.0) 0 + 1 < 2 ^ 64) }
+    ensures { local.new.items ≡ risen (decl_of script.now ext.now).decl (length script.now.micros) ext.now.node.0 completed local.old.items }
+{
+    let number = decl_number(script, ext);
+    let decl = decl_in(script, number);
+    raise_at(&decl.decl, script.micros.len(), ext.node, completed, local);
+}
+
+fn raise_at(
     decl: &Decl,
-    local: &mut Vec<u64>,
     columns: usize,
     node: NodeId,
-    micro: MicroId,
+    completed: Option<MicroId>,
+    local: &mut Vec<u64>,
 )
+    requires testable { IsTestable decl.now }
+    requires there { IfSome completed (λ micro. node.0 * columns + micro.0 < length local.old.items) }
+    requires small { IfSome completed (λ micro. get_or local.old.items (node.0 * columns + micro.0) 0 + 1 < 2 ^ 64) }
+    ensures { local.new.items ≡ risen decl.now columns node.0 completed local.old.items }
 {
-    if raises(decl, micro) {
-        local[node.0 as usize * columns + micro.0 as usize] += 1;
+    if let Some(micro) = completed {
+        if raises(decl, micro) {
+            local[node.0 as usize * columns + micro.0 as usize] += 1;
+        }
     }
 }

@@ -12,7 +12,7 @@ go_back-requires-clause-due g c =
     let sound : IsSound c.args.self.now = record {
       run = c.admitted-admitted.ensures.run;
       all = c.admitted-admitted.ensures.all;
-      declares = c.admitted-admitted.ensures.declares;
+      in_range = c.admitted-admitted.ensures.in_range;
       past = c.admitted-admitted.ensures.past;
     } in
     let b : IsBack c.args.self.now c.args.turn = back c.args.self.now c.args.turn sound c.requires.away in
@@ -23,7 +23,7 @@ go_back-requires-clause-within g c =
     let sound : IsSound c.args.self.now = record {
       run = c.admitted-admitted.ensures.run;
       all = c.admitted-admitted.ensures.all;
-      declares = c.admitted-admitted.ensures.declares;
+      in_range = c.admitted-admitted.ensures.in_range;
       past = c.admitted-admitted.ensures.past;
     } in
     let b : IsBack c.args.self.now c.args.turn = back c.args.self.now c.args.turn sound c.requires.away in

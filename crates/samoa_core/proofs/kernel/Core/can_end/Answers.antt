@@ -7,7 +7,7 @@ use Rattle.samoa_core.proofs.kernel.Core.can_end.Goals as goal
 pub returns-clause-due : goal.returns-clause-due
 returns-clause-due g c e =
     let t : Trace = c.args.self.now in
-    let fits : IsFit t = fit t c.admitted-admitted.ensures.in_range c.admitted-admitted.ensures.built c.admitted-admitted.ensures.declares c.admitted-admitted.ensures.known in
+    let fits : IsFit t = fit t c.admitted-admitted.ensures.in_range in
     let all : (state t).count ≡ length t.exts = c.admitted-admitted.ensures.all in
     let first = c.requires.kept in
     let last = c.requires.admitted in

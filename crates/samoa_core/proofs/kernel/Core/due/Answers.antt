@@ -7,7 +7,7 @@ next-requires-clause-kept g c =
     let sound : IsSound c.args.self.now = record {
       run = c.admitted-admitted.ensures.run;
       all = c.admitted-admitted.ensures.all;
-      declares = c.admitted-admitted.ensures.declares;
+      in_range = c.admitted-admitted.ensures.in_range;
       past = c.admitted-admitted.ensures.past;
     } in
     due-since c.args.self.now c.args.comp c.requires.due.0 sound c.requires.due.1

@@ -9,13 +9,13 @@ use Rattle.samoa_core.proofs.kernel.Core.end_all.Goals as goal
 pub returns-clause-none : goal.returns-clause-none
 returns-clause-none g c comp due =
     let t : Trace = c.args.self.now in
-    let fits : IsFit t = fit t c.admitted-admitted.ensures.in_range c.admitted-admitted.ensures.built c.admitted-admitted.ensures.declares c.admitted-admitted.ensures.known in
+    let fits : IsFit t = fit t c.admitted-admitted.ensures.in_range in
     no_end t fits c.admitted-admitted.ensures.run c.admitted-admitted.ensures.all (comp - 1) (subst (λ (x : Trace). IsDue x (Step.End comp)) c.end_each.ensures.trace due).enabled
 
 pub returns-clause-still : goal.returns-clause-still
 returns-clause-still g c =
     let t : Trace = c.args.self.now in
-    let fits : IsFit t = fit t c.admitted-admitted.ensures.in_range c.admitted-admitted.ensures.built c.admitted-admitted.ensures.declares c.admitted-admitted.ensures.known in
+    let fits : IsFit t = fit t c.admitted-admitted.ensures.in_range in
     let a : Ended (state t) (finished t) (length t.exts) = none-ended t fits c.admitted-admitted.ensures.run c.admitted-admitted.ensures.all in
     rw c.end_each.ensures.trace (record { out = a.out; stopped = a.stopped })
 

@@ -16,7 +16,7 @@ loop-comp-init g c =
     let all : (state t).count ≡ length t.exts = c.admitted-admitted.ensures.all in
     let most : cleared_comps t ≤ length t.exts = c.admitted-admitted.ensures.cleared in
     let count : c.admitted-admitted.result ≡ length t.exts = c.admitted-admitted.ensures.count in
-    let fits : IsFit t = fit t c.admitted-admitted.ensures.in_range c.admitted-admitted.ensures.built c.admitted-admitted.ensures.declares c.admitted-admitted.ensures.known in
+    let fits : IsFit t = fit t c.admitted-admitted.ensures.in_range in
     record {
       fact = sym (ap (λ (xs : List Step). with_journal t xs) (skip_ends t c.cleared-comp.result past));
       cleared = refl;

@@ -16,7 +16,7 @@ returns-clause-away g c =
     let sound : IsSound c.args.self.now = record {
       run = c.admitted-admitted.ensures.run;
       all = c.admitted-admitted.ensures.all;
-      declares = c.admitted-admitted.ensures.declares;
+      in_range = c.admitted-admitted.ensures.in_range;
       past = c.admitted-admitted.ensures.past;
     } in
     let step : MicroId × Moment = (c.due-moment.result.0, c.due-moment.result.1) in
@@ -30,7 +30,7 @@ returns-clause-fewer g c =
     let sound : IsSound c.args.self.now = record {
       run = c.admitted-admitted.ensures.run;
       all = c.admitted-admitted.ensures.all;
-      declares = c.admitted-admitted.ensures.declares;
+      in_range = c.admitted-admitted.ensures.in_range;
       past = c.admitted-admitted.ensures.past;
     } in
     rw c.go_out-held.ensures.step (fewer c.args.self.now (Step.Enter c.args.comp c.due-moment.result.0.0) sound.run tt c.due-moment.ensures.due)

@@ -14,7 +14,7 @@ go_home-requires-clause-due g c =
     let sound : IsSound c.args.self.now = record {
       run = c.admitted-admitted.ensures.run;
       all = c.admitted-admitted.ensures.all;
-      declares = c.admitted-admitted.ensures.declares;
+      in_range = c.admitted-admitted.ensures.in_range;
       past = c.admitted-admitted.ensures.past;
     } in
     let b : IsBack c.args.self.now c.args.ran = back c.args.self.now c.args.ran sound c.requires.away in
@@ -25,7 +25,7 @@ go_home-requires-clause-kept g c =
     let sound : IsSound c.args.self.now = record {
       run = c.admitted-admitted.ensures.run;
       all = c.admitted-admitted.ensures.all;
-      declares = c.admitted-admitted.ensures.declares;
+      in_range = c.admitted-admitted.ensures.in_range;
       past = c.admitted-admitted.ensures.past;
     } in
     let b : IsBack c.args.self.now c.args.ran = back c.args.self.now c.args.ran sound c.requires.away in
@@ -36,7 +36,7 @@ go_home-requires-clause-within g c =
     let sound : IsSound c.args.self.now = record {
       run = c.admitted-admitted.ensures.run;
       all = c.admitted-admitted.ensures.all;
-      declares = c.admitted-admitted.ensures.declares;
+      in_range = c.admitted-admitted.ensures.in_range;
       past = c.admitted-admitted.ensures.past;
     } in
     let b : IsBack c.args.self.now c.args.ran = back c.args.self.now c.args.ran sound c.requires.away in
@@ -47,7 +47,7 @@ returns-clause-fewer g c =
     let sound : IsSound c.args.self.now = record {
       run = c.admitted-admitted.ensures.run;
       all = c.admitted-admitted.ensures.all;
-      declares = c.admitted-admitted.ensures.declares;
+      in_range = c.admitted-admitted.ensures.in_range;
       past = c.admitted-admitted.ensures.past;
     } in
     let b : IsBack c.args.self.now c.args.ran = back c.args.self.now c.args.ran sound c.requires.away in

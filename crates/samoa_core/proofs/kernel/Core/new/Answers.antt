@@ -2,7 +2,6 @@ use Rattle.std.proofs.Common.{◌∙◌, ◌*◌, ℕ, ap, replicate, subst, sym
 use Rattle.samoa_model.specs.declared.script.Script.{Script}
 use Rattle.samoa_model.specs.Range.{IsInRange, IsBuilt}
 use Rattle.samoa_micro.specs.Covers.{Covers}
-use Rattle.samoa_core.specs.Known.{DeclaresKnown}
 use Rattle.samoa_core.proofs.Keeps.{kept-new}
 use Rattle.samoa_core.proofs.kernel.Core.new.Goals as goal
 
@@ -17,6 +16,5 @@ invariant_of-result g c =
     (kept-new script c.in_ok-tables.tables c.in_ok-slots.slots c.in_ok-global.global.items c.in_ok-local.local.items c.args.cells _ _
     (subst IsInRange (sym c.in_ok-script.ensures) c.requires.in_range)
     (subst IsBuilt (sym c.in_ok-script.ensures) c.requires.built)
-    (subst DeclaresKnown (sym c.in_ok-script.ensures) c.requires.declares)
     c.in_ok-tables.ensures c.in_ok-slots.ensures
     (c.in_ok-global.ensures ∙ many) (c.in_ok-local.ensures ∙ many))

@@ -9,14 +9,14 @@ use Rattle.samoa_core.proofs.kernel.Core.release_all.Goals as goal
 pub returns-clause-none : goal.returns-clause-none
 returns-clause-none g c comp micro due =
     let t : Trace = c.args.self.now in
-    let fits : IsFit t = fit t c.admitted-admitted.ensures.in_range c.admitted-admitted.ensures.built c.admitted-admitted.ensures.declares c.admitted-admitted.ensures.known in
+    let fits : IsFit t = fit t c.admitted-admitted.ensures.in_range in
     let r : Released (state t) (released t) = none-released t fits c.admitted-admitted.ensures.run c.admitted-admitted.ensures.all in
     r.none (comp - 1) micro (subst (λ (x : Trace). IsDue x (Step.Release comp micro)) c.release_each.ensures.trace due).enabled
 
 pub returns-clause-still : goal.returns-clause-still
 returns-clause-still g c =
     let t : Trace = c.args.self.now in
-    let fits : IsFit t = fit t c.admitted-admitted.ensures.in_range c.admitted-admitted.ensures.built c.admitted-admitted.ensures.declares c.admitted-admitted.ensures.known in
+    let fits : IsFit t = fit t c.admitted-admitted.ensures.in_range in
     let r : Released (state t) (released t) = none-released t fits c.admitted-admitted.ensures.run c.admitted-admitted.ensures.all in
     rw c.release_each.ensures.trace (record { out = r.out; stopped = r.stopped })
 

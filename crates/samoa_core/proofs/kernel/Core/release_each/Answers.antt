@@ -4,7 +4,6 @@ use Rattle.samoa_invariant.specs.Runs.{Trace, state}
 use Rattle.samoa_invariant.proofs.Traces.{invariant}
 use Rattle.samoa_core.specs.Since.{cleared_comps}
 use Rattle.samoa_core.specs.Scans.{with_journal}
-use Rattle.samoa_core.proofs.Settling.{IsFit, fit}
 use Rattle.samoa_core.proofs.Tests.{skip_releases}
 use Rattle.samoa_core.proofs.kernel.Core.release_each.Goals as goal
 
@@ -17,9 +16,8 @@ loop-comp-init g c =
     let all : (state t).count ≡ length t.exts = c.admitted-admitted.ensures.all in
     let most : cleared_comps t ≤ length t.exts = c.admitted-admitted.ensures.cleared in
     let count : c.admitted-admitted.result ≡ length t.exts = c.admitted-admitted.ensures.count in
-    let fits : IsFit t = fit t c.admitted-admitted.ensures.in_range c.admitted-admitted.ensures.built c.admitted-admitted.ensures.declares c.admitted-admitted.ensures.known in
     record {
-      fact = sym (ap (λ (xs : List Step). with_journal t xs) (skip_releases t c.cleared-comp.result (invariant t c.admitted-admitted.ensures.run) (omega (arith, is, all, most)) (λ k lt. fits.sets k (omega (arith, lt, all))) past));
+      fact = sym (ap (λ (xs : List Step). with_journal t xs) (skip_releases t c.cleared-comp.result (invariant t c.admitted-admitted.ensures.run) (omega (arith, is, all, most)) past));
       cleared = refl;
       not_more = omega arith;
       low = omega (arith, is);

@@ -13,7 +13,7 @@ pub versions_of-requires-clause-small : goal.versions_of-requires-clause-small
 versions_of-requires-clause-small g c p below =
     let fs : Fields = fields_of c.self.inside in
     let known : IsExtOf fs.script c.args.ext = subst (λ (x : Trace). IsExtOf x.script c.args.ext) (sym c.self.view_is) c.requires.known in
-    let most : get_or fs.global (c.args.ext.node.0 * length fs.script.micros + p) 0 ≤ 100000 = small fs c.args.ext.node.0 p c.self.invariant known.node below in
+    let most : get_or fs.global (c.args.ext.node.0 * length fs.script.micros + p) 0 ≤ 25600000 = small fs c.args.ext.node.0 p c.self.invariant known.node below in
     omega (arith, most)
 
 pub invariant_of-self : goal.invariant_of-self

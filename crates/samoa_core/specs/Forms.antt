@@ -1,0 +1,37 @@
+-- What a declaration's form says of a release, and of the local version where a call was completed.
+use Rattle.std.specs.Prelude.{◌≡◌, ℕ, ◌+◌, ◌*◌, Bool, true, false, ◌&&◌, List, [], map, get_or, set, Option, Some, None}
+use Rattle.samoa_model.specs.Allowed.{declares}
+use Rattle.samoa_model.specs.Scripts.{Table}
+use Rattle.samoa_model.specs.declared.ids.HandlerId.{HandlerId}
+use Rattle.samoa_model.specs.declared.ids.MicroId.{MicroId}
+use Rattle.samoa_model.specs.declared.script.Decl.{Decl}
+use Rattle.samoa_calls.specs.Held.{handlers_of}
+use Rattle.samoa_invariant.specs.Play.{is_bound}
+use Rattle.samoa_serial.specs.Calls.{Computation}
+use Rattle.samoa_vca_route.specs.Routes.{IsGraph}
+
+-- a declaration by which the tests of its form may be made: a route is a graph of few vertices
+abbrev pub IsTestable : Decl → Type 0
+IsTestable (Decl.Set micros) = Unit {0}
+IsTestable (Decl.Bound bounds) = Unit {0}
+IsTestable (Decl.Route vertices roots edges) = IsGraph vertices edges
+
+-- these are the handlers of a computation's active calls and of its waiting ones, of which there are none where none is active
+pub record IsStanding (table : Table) (comp : Computation) (active waiting : List HandlerId) : Type 0 where
+  pub active_handlers : active ≡ map (λ a. a.call.handler) comp.active
+  pub waiting_handlers : waiting ≡ handlers_of table comp.waiting
+  pub none_waits : comp.active ≡ [] → comp.waiting ≡ []
+
+-- whether a call that is completed at a microprotocol raises its local version
+abbrev pub raises : Decl → ℕ → Bool
+raises decl p = is_bound decl && declares decl p
+
+-- cells with one of them raised, or not
+abbrev pub raised_if : Bool → ℕ → List ℕ → List ℕ
+raised_if true at cells = set cells at (get_or cells at 0 + 1)
+raised_if false at cells = cells
+
+-- the local versions after a call was completed at this microprotocol of a node, or none
+abbrev pub risen : Decl → ℕ → ℕ → Option MicroId → List ℕ → List ℕ
+risen decl columns node None cells = cells
+risen decl columns node (Some micro) cells = raised_if (raises decl micro.0) (node * columns + micro.0) cells
