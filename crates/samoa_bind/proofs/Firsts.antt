@@ -1,5 +1,5 @@
 -- The first epoch of a node.
-use Rattle.std.proofs.Common.{◌≡◌, ◌≤◌, [], ◌∷◌, List, All, length, arith, subst, sym}
+use Rattle.std.proofs.Common.{◌≡◌, [], ◌∷◌, List, arith, subst, sym}
 use Rattle.std.proofs.lemmas.List.Elements.{All-nil, All-cons}
 use Rattle.samoa_model.specs.Scripts.{Table}
 use Rattle.samoa_bind.specs.Bound.{IsFew, AreEpochs}

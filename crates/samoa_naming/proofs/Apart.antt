@@ -11,7 +11,7 @@ use Rattle.std.proofs.lemmas.Slice.Eq.{bytes_eq-Decides}
 use Rattle.samoa_grammar.specs.declared.fault.WalkFault.{WalkFault}
 use Rattle.samoa_grammar.specs.Meaning.{number_in_names}
 use Rattle.samoa_grammar.specs.Passes.{twice_after, twice, among}
-use Rattle.samoa_naming.specs.Sound.{HasNoneTwice}
+use Rattle.samoa_model.specs.Range.{HasNoneTwice}
 use Rattle.samoa_naming.proofs.Sizes.{when_passes}
 use Rattle.samoa_naming.proofs.Numbers.{found_below, number_is}
 

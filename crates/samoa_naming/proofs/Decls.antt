@@ -6,6 +6,7 @@ use Rattle.std.proofs.lemmas.List.{length-map}
 use Rattle.std.proofs.lemmas.List.Elements.{All-map, All-append}
 use Rattle.samoa_model.specs.declared.ids.HandlerId.{HandlerId}
 use Rattle.samoa_model.specs.declared.script.DeclDef.{DeclDef}
+use Rattle.samoa_model.specs.Range.{IsSetOf, IsDeclOf, HasDecls}
 use Rattle.samoa_grammar.specs.declared.draft.BoundDraft.{BoundDraft}
 use Rattle.samoa_grammar.specs.declared.draft.EdgeDraft.{EdgeDraft}
 use Rattle.samoa_grammar.specs.declared.draft.BodyDraft.{BodyDraft}
@@ -17,7 +18,6 @@ use Rattle.samoa_grammar.specs.Meaning.{number_in_names, micros_named, handler_o
 use Rattle.samoa_grammar.specs.Passes.{twice, body_twice, among, micro_names, handler_unknown, body_unknown, vertices_fault, twice_fault, unknown_fault, totals_fault}
 use Rattle.samoa_form.specs.Limits.{HasBodyLimits, HasDeclLimits, HasLimits}
 use Rattle.samoa_naming.specs.Routes.{ends_of}
-use Rattle.samoa_naming.specs.Sound.{IsSetOf, IsDeclOf, HasDecls}
 use Rattle.samoa_naming.proofs.Along.{then_none}
 use Rattle.samoa_naming.proofs.Passed.{along_all, bodies_apart, bodies_defined, vertices_few}
 use Rattle.samoa_naming.proofs.Sizes.{when_fails}

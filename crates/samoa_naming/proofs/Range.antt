@@ -17,12 +17,13 @@ use Rattle.samoa_grammar.specs.declared.draft.DoDraft.{DoDraft}
 use Rattle.samoa_grammar.specs.declared.draft.Draft.{Draft}
 use Rattle.samoa_grammar.specs.Walks.{first_along}
 use Rattle.samoa_grammar.specs.Meaning.{number_in_names, event_named, change_named, handler_of, micro_meant, decl_meant, event_meant, table_meant, change_meant, cause_meant, do_meant, script_of}
-use Rattle.samoa_grammar.specs.Passes.{among, decl_names, event_names, change_names, handler_unknown, micro_unknown, event_unknown, table_unknown, change_unknown, cause_unknown, node_fault, tick_fault, unknown_fault, totals_fault}
+use Rattle.samoa_grammar.specs.Passes.{among, decl_names, event_names, change_names, handler_unknown, micro_unknown, event_unknown, table_unknown, change_unknown, cause_unknown, node_fault, tick_fault, twice_fault, unknown_fault, totals_fault}
 use Rattle.samoa_form.specs.Limits.{HasMicroLimits, HasDeclLimits, HasEventLimits, HasTableLimits, HasChangeLimits, HasLimits}
 use Rattle.samoa_naming.proofs.Along.{then_none}
 use Rattle.samoa_naming.proofs.Passed.{along_all, micros_defined, events_defined, changes_defined, causes_defined, does_inside, ticks_inside}
 use Rattle.samoa_naming.proofs.Sizes.{node_below, tick_upto}
 use Rattle.samoa_naming.proofs.Numbers.{number_below, handler_below}
+use Rattle.samoa_naming.proofs.Decls.{decls_in}
 
 event_in : (x : Draft) (name : List ℕ) → among (event_names x) name ≡ None → IsEventOf (script_of x) (event_named x name)
 unfolding script_of
@@ -109,9 +110,9 @@ decl_budget : (x : Draft) (d : DeclDraft) → HasDeclLimits d → HasBudget (dec
 unfolding decl_meant
 decl_budget x d limits = (limits.least_budget, limits.budget)
 
-pub script_in_range : (x : Draft) → HasLimits x → unknown_fault x ≡ None → totals_fault x ≡ None → IsInRange (script_of x)
+pub script_in_range : (x : Draft) → HasLimits x → twice_fault x ≡ None → unknown_fault x ≡ None → totals_fault x ≡ None → IsInRange (script_of x)
 unfolding script_of
-script_in_range x limits known totals =
+script_in_range x limits apart known totals =
     let s : Script = script_of x in
     record {
       some_node = limits.some_node;
@@ -121,6 +122,7 @@ script_in_range x limits known totals =
       few_micros = subst (λ n. n ≤ 24) (sym (length-map x.micros (micro_meant x))) limits.few_micros;
       micros = All-map (IsMicroInRange s) (micro_meant x) x.micros (λ k d below. micro_in_range x (get_or x.micros k d) (limits.micros k d below) (micros_defined x known k d below));
       few_decls = subst (λ n. n ≤ 64) (sym (length-map x.decls (decl_meant x))) limits.few_decls;
+      decls = decls_in x limits apart known totals;
       budgets = All-map HasBudget (decl_meant x) x.decls (λ k d below. decl_budget x (get_or x.decls k d) (limits.decls k d below));
       some_event = subst (λ n. 1 ≤ n) (sym (length-map x.events (event_meant x))) limits.some_event;
       few_events = subst (λ n. n ≤ 64) (sym (length-map x.events (event_meant x))) limits.few_events;

@@ -1,5 +1,5 @@
 -- What a script keeps to besides its ranges.
-use Rattle.std.specs.Prelude.{◌≡◌, ◌≤◌, ◌<◌, ◌*◌, ℕ, true, List, length, count_by}
+use Rattle.std.specs.Prelude.{◌≡◌, ◌≤◌, ◌<◌, ◌*◌, true, length, count_by}
 use Rattle.std.specs.List.{All}
 use Rattle.samoa_model.specs.declared.setup.Kind.{Kind}
 use Rattle.samoa_model.specs.declared.setup.Instr.{Instr}

@@ -6,11 +6,13 @@ ghost use Rattle.samoa_grammar.specs.declared.draft.Draft.{Draft};
 ghost use Rattle.samoa_grammar.specs.Meaning.{script_of};
 ghost use Rattle.samoa_grammar.specs.Passes.{twice_fault, unknown_fault, totals_fault};
 ghost use Rattle.samoa_form.specs.Limits.{HasLimits};
-ghost use Rattle.samoa_naming.specs.Sound.{HasShortCodes, HasPositions, HasPorts, HasFewOfEach, HasDecls, IsLossOf, IsCrashOf};
+ghost use Rattle.samoa_naming.specs.Sound.{HasShortCodes, HasPositions, HasPorts, HasFewOfEach, IsLossOf, IsCrashOf};
 
-/// The script of a draft that passes is in range, and its handlers are short.
+/// The script of a draft that passes is in range, and its handlers are short. What its declarations allow is of the
+/// script: the microprotocols of a set and of a bound are the script's, none twice, a bound is from 1 to 256, and a route
+/// has at most 32 vertices, its roots and edges among them.
 pub fn held_range()
-    ensures in_range { (x : Draft) → HasLimits x → unknown_fault x ≡ None → totals_fault x ≡ None → IsInRange (script_of x) }
+    ensures in_range { (x : Draft) → HasLimits x → twice_fault x ≡ None → unknown_fault x ≡ None → totals_fault x ≡ None → IsInRange (script_of x) }
     ensures short { (x : Draft) → HasLimits x → HasShortCodes (script_of x) }
 {}
 
@@ -22,10 +24,4 @@ pub fn held_totals()
     ensures kinds { (x : Draft) → totals_fault x ≡ None → HasFewOfEach (script_of x) }
     ensures losses { (x : Draft) → totals_fault x ≡ None → All (IsLossOf (script_of x)) (script_of x).losses }
     ensures crashes { (x : Draft) → totals_fault x ≡ None → All (IsCrashOf (script_of x)) (script_of x).crashes }
-{}
-
-/// What a declaration of a draft that passes allows is of its script: the microprotocols of a set and of a bound are the
-/// script's, none twice, a bound is from 1 to 256, and a route has at most 32 vertices, its roots and edges among them.
-pub fn held_decls()
-    ensures { (x : Draft) → HasLimits x → twice_fault x ≡ None → unknown_fault x ≡ None → totals_fault x ≡ None → HasDecls (script_of x) }
 {}

@@ -9,7 +9,7 @@ use Rattle.serde_json.specs.Read.{read}
 use Rattle.samoa_grammar.specs.declared.fault.WalkFault.{WalkFault}
 use Rattle.samoa_grammar.specs.declared.fault.WalkFault.TheVariants as walks
 use Rattle.samoa_grammar.specs.Tree.{IsJson}
-use Rattle.samoa_grammar.specs.Held.{walk_fault, script_meant, Holds, WalkFails}
+use Rattle.samoa_grammar.specs.Held.{walk_fault, script_meant, WalkFails}
 use Rattle.samoa_script.specs.declared.fault.ScriptFault.TheVariants.{TooLong, NotJson, Missing, WrongForm, Unknown, Twice, Over}
 use Rattle.samoa_script.specs.Fails.{HasScript, HasFault}
 

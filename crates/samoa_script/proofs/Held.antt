@@ -3,7 +3,7 @@ use Rattle.std.proofs.Common.{◌≡◌, ℕ, List, None, sym, subst}
 use Rattle.std.specs.List.{All}
 use Rattle.serde_json.specs.Data.{Data}
 use Rattle.samoa_model.specs.declared.script.Script.{Script}
-use Rattle.samoa_model.specs.Range.{IsInRange}
+use Rattle.samoa_model.specs.Range.{HasDecls, IsInRange}
 use Rattle.samoa_grammar.specs.Walks.{◌then◌}
 use Rattle.samoa_grammar.specs.Forms.{form_of_all, draft_of}
 use Rattle.samoa_grammar.specs.Passes.{twice_fault, unknown_fault, totals_fault}
@@ -11,7 +11,7 @@ use Rattle.samoa_grammar.specs.Meaning.{script_of}
 use Rattle.samoa_grammar.specs.Held.{walk_fault, script_meant, Holds}
 use Rattle.samoa_form.specs.Limits.{HasLimits}
 use Rattle.samoa_form.proofs.Limits.{draft_limits}
-use Rattle.samoa_naming.specs.Sound.{HasShortCodes, HasPositions, HasPorts, HasFewOfEach, HasDecls, IsLossOf, IsCrashOf}
+use Rattle.samoa_naming.specs.Sound.{HasShortCodes, HasPositions, HasPorts, HasFewOfEach, IsLossOf, IsCrashOf}
 use Rattle.samoa_naming.proofs.Along.{then_none}
 use Rattle.samoa_naming.proofs.Range.{script_in_range}
 use Rattle.samoa_naming.proofs.Sound.{short_codes, positions_there, enough_ports, few_of_each, losses_of, crashes_of}
@@ -45,13 +45,13 @@ limits_of : (d : Data) → Passes d → HasLimits (draft_of d)
 limits_of d p = draft_limits d p.form
 
 pub held_range : (bytes : List ℕ) (script : Script) → Holds bytes script → IsInRange script
-held_range = by_draft IsInRange (λ d p. script_in_range (draft_of d) (limits_of d p) p.known p.totals)
+held_range = by_draft IsInRange (λ d p. script_in_range (draft_of d) (limits_of d p) p.once p.known p.totals)
 
 pub held_short : (bytes : List ℕ) (script : Script) → Holds bytes script → HasShortCodes script
 held_short = by_draft HasShortCodes (λ d p. short_codes (draft_of d) (limits_of d p))
 
 pub tree_range : (d : Data) (script : Script) → walk_fault d ≡ None → script ≡ script_meant d → IsInRange script
-tree_range = by_tree IsInRange (λ d p. script_in_range (draft_of d) (limits_of d p) p.known p.totals)
+tree_range = by_tree IsInRange (λ d p. script_in_range (draft_of d) (limits_of d p) p.once p.known p.totals)
 
 pub tree_short : (d : Data) (script : Script) → walk_fault d ≡ None → script ≡ script_meant d → HasShortCodes script
 tree_short = by_tree HasShortCodes (λ d p. short_codes (draft_of d) (limits_of d p))

@@ -3,10 +3,10 @@ ghost use Rattle.std.specs.Prelude.{◌≡◌, ◌⊎◌, ℕ, List, IfOk, IfErr
 ghost use Rattle.std.specs.List.{All};
 ghost use Rattle.serde_json.specs.View.{view};
 ghost use Rattle.samoa_model.specs.declared.script.Script.{Script as ScriptValue};
-ghost use Rattle.samoa_model.specs.Range.{IsInRange};
+ghost use Rattle.samoa_model.specs.Range.{HasDecls, IsInRange};
 ghost use Rattle.samoa_grammar.specs.Held.{walk_fault, script_meant, Holds};
 ghost use Rattle.samoa_form.specs.Reads.{Reads};
-ghost use Rattle.samoa_naming.specs.Sound.{HasShortCodes, HasPositions, HasPorts, HasFewOfEach, HasDecls, IsLossOf, IsCrashOf};
+ghost use Rattle.samoa_naming.specs.Sound.{HasShortCodes, HasPositions, HasPorts, HasFewOfEach, IsLossOf, IsCrashOf};
 ghost use Rattle.samoa_script.specs.declared.fault.ScriptFault.{ScriptFault as FaultValue};
 ghost use Rattle.samoa_script.specs.Fails.{Fails, HasScript, HasFault};
 

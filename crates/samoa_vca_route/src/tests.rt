@@ -49,12 +49,16 @@ fn to_and_fro(alloc: Global) -> Result<Decl, Fail>
     })
 }
 
-/// From 0 to 1 or to 2.
+/// From the sixth handler of 0 to the first of 1 or of 2.
 fn fork(alloc: Global) -> Result<Decl, Fail>
     ensures { IfOk result IsRoute }
 {
+    let root = HandlerId {
+        micro: MicroId(0),
+        index: 5,
+    };
     Ok(Decl::Route {
-        vertices: Listed::from_vec(vec![in alloc; handler(0), handler(1), handler(2)]?),
+        vertices: Listed::from_vec(vec![in alloc; root, handler(1), handler(2)]?),
         roots: Listed::from_vec(vec![in alloc; 0]?),
         edges: Listed::from_vec(vec![in alloc; (0, 1), (0, 2)]?),
     })
