@@ -195,20 +195,5 @@ skip_ready P core (suc n) i le ended =
 suc_is : (n : ℕ) → n + 1 ≡ suc n
 suc_is n = omega arith
 
-pub past-more : (P : Play) (core : model.Core) (k n : ℕ) → all_past P core k (n + 1) ≡ (all_past P core k n && is_past P core k n)
-past-more P core k n = ap (λ (m : ℕ). all_past P core k m) (suc_is n)
-
-pub ended-more : (core : model.Core) (n : ℕ) → ended_to core (n + 1) ≡ (ended_to core n && core.ended n)
-ended-more core n = ap (λ (m : ℕ). ended_to core m) (suc_is n)
-
 pub releases_of-more : (t : Trace) (k n : ℕ) → releases_of t k (n + 1) ≡ try_release (with_journal t (releases_of t k n)) k n
 releases_of-more t k n = ap (λ (m : ℕ). releases_of t k m) (suc_is n)
-
-pub releases-more : (t : Trace) (n : ℕ) → releases t (n + 1) ≡ releases_of (with_journal t (releases t n)) (n + 1) (length t.script.micros)
-releases-more t n = ap (λ (m : ℕ). releases t m) (suc_is n) ∙ ap (λ (m : ℕ). releases_of (with_journal t (releases t n)) m (length t.script.micros)) (sym (suc_is n))
-
-pub ends-more : (t : Trace) (n : ℕ) → ends t (n + 1) ≡ try_end (with_journal t (ends t n)) (n + 1)
-ends-more t n = ap (λ (m : ℕ). ends t m) (suc_is n) ∙ ap (λ (m : ℕ). try_end (with_journal t (ends t n)) m) (sym (suc_is n))
-
-pub first-more : (P : Play) (core : model.Core) (n : ℕ) → model.first_ready P core (n + 1) ≡ model.or_last (model.first_ready P core n) (model.is_ready P core n) n
-first-more P core n = ap (λ (m : ℕ). model.first_ready P core m) (suc_is n)

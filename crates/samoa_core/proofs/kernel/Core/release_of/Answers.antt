@@ -1,0 +1,21 @@
+use Rattle.std.proofs.Common.{arith, ◌∙◌, ◌≤◌, ap, sym}
+use Rattle.samoa_invariant.specs.State as model
+use Rattle.samoa_invariant.specs.Runs.{Trace, play, state}
+use Rattle.samoa_core.specs.Scans.{try_release, with_journal}
+use Rattle.samoa_core.proofs.Tests.{releases_of-more}
+use Rattle.samoa_core.proofs.kernel.Core.release_of.Goals as goal
+
+pub loop-micro-preserved : goal.loop-micro-preserved
+loop-micro-preserved g c =
+    let before : model.left (play c.loop-micro.self) (state c.loop-micro.self) ≤ model.left (play c.args.self.now) (state c.args.self.now) = c.loop-micro.invariant.not_more in
+    let less : model.left (play c.try_release.new.self) (state c.try_release.new.self) ≤ model.left (play c.loop-micro.self) (state c.loop-micro.self) = c.try_release.ensures.not_more in
+    record {
+      fact =
+          c.try_release.ensures.trace
+          ∙ (ap (λ (t : Trace). with_journal t (try_release t c.args.comp c.loop-micro.micro)) c.loop-micro.invariant.fact
+          ∙ sym (ap (with_journal c.args.self.now) (releases_of-more c.args.self.now c.args.comp c.loop-micro.micro)));
+      cleared = c.try_release.ensures.cleared ∙ c.loop-micro.invariant.cleared;
+      not_more = omega (arith, before, less);
+      below = omega arith;
+      most = c.loop-micro.invariant.most;
+    }
