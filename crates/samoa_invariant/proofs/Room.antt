@@ -1,12 +1,9 @@
 -- How many steps an admission adds to those still to come.
-use Rattle.std.proofs.Common.{arith, ◌≡◌, ◌≢◌, ℕ, zero, suc, ◌+◌, ◌-◌, ◌*◌, ◌≤◌, ◌<◌, refl, sym, ap, ◌∙◌, subst, Bool, true, false, List, [], ◌∷◌, ◌++◌, length, get_or, slice_get, Option, Some, None, take}
+use Rattle.std.proofs.Common.{arith, ◌≡◌, ◌≢◌, ℕ, zero, suc, ◌+◌, ◌-◌, ◌*◌, ◌≤◌, ◌<◌, refl, sym, ap, ◌∙◌, subst, Bool, true, false, List, [], ◌∷◌, length, slice_get, Some, take}
 use Rattle.std.specs.Prelude.{nat_lt}
-use Rattle.samoa_model.specs.declared.handler.Moment.{Moment}
 use Rattle.samoa_model.specs.declared.record.Ext.{Ext}
-use Rattle.samoa_model.specs.declared.script.Script.{Script}
 use Rattle.samoa_model.specs.Range.{IsInRange}
 use Rattle.samoa_model.specs.Scripts.{decl_of}
-use Rattle.samoa_serial.specs.declared.call.Call.{Call}
 use Rattle.samoa_serial.specs.Calls.{Computation}
 use Rattle.samoa_serial.specs.Alone.{next_step}
 use Rattle.samoa_serial.specs.Whole.{Ran}
@@ -15,11 +12,11 @@ use Rattle.samoa_serial.proofs.ScriptLaws.{turns_of_ran-at_most}
 use Rattle.samoa_invariant.specs.Slots.{At}
 use Rattle.samoa_invariant.specs.Play.{Play, turns, whole_of}
 use Rattle.samoa_invariant.specs.Runs.{Trace, ext_at, no_ext, play}
-use Rattle.samoa_invariant.specs.State.{Core, admit, home_of, left, left_of, named, put, short_at, shorts, sum_to, to_end}
+use Rattle.samoa_invariant.specs.State.{Core, admit, home_of, left, left_of, named, short_at, shorts, sum_to, to_end}
 use Rattle.samoa_invariant.proofs.Lefts.{home-most}
 use Rattle.samoa_invariant.proofs.Scripted.{get_there, plays}
 use Rattle.samoa_invariant.proofs.Serials.{stood_is, whole_is}
-use Rattle.samoa_invariant.proofs.Slots.{put-else, put-here}
+use Rattle.samoa_invariant.proofs.Slots.{put-else}
 
 short-most : (b : Bool) → short_at b ≤ suc zero
 short-most true = omega arith
