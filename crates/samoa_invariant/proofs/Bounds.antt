@@ -20,18 +20,14 @@ use Rattle.samoa_model.specs.Scripts.{Table}
 use Rattle.samoa_model.specs.Entries.{calls_at}
 use Rattle.samoa_serial.proofs.Point.{turn_is}
 use Rattle.samoa_invariant.specs.Play.{Play, rules, is_bound, attempts, table_of, point, drive, done, ends_call, Never}
+use Rattle.samoa_invariant.specs.State.{Core}
+use Rattle.samoa_invariant.specs.Within.{IsWithin, active_at, one_at}
+use Rattle.samoa_invariant.specs.Inv.{Invariant}
 use Rattle.samoa_invariant.proofs.Versions.{same_or_not, if_here, if_else}
 use Rattle.samoa_invariant.proofs.Points.{some_or_none, turn_still, done-append}
 use Rattle.samoa_invariant.proofs.Steps.{some_injective}
 use Rattle.samoa_invariant.proofs.Closed.{Of, IsPlain, IsClosed, closed_replied, closed_take, closed_drive, closed_start}
 use Rattle.samoa_invariant.proofs.Accepts.{AllPass, AllActive, IsAccepted, is_accepted, passed_bound, passed_form, next_is_head}
-
-abbrev pub one_at : HandlerId → ℕ → ℕ
-one_at g p = if g.micro.0 == p then suc zero else zero
-
-abbrev pub active_at : List Active → ℕ → ℕ
-active_at [] p = zero
-active_at (a ∷ rest) p = one_at a.call.handler p + active_at rest p
 
 handlers_at-cons : (g : HandlerId) (gs : List HandlerId) (p : ℕ) → handlers_at (g ∷ gs) p ≡ one_at g p + handlers_at gs p
 handlers_at-cons g gs p =
@@ -276,3 +272,10 @@ meets_counting P k n p b le os =
     let kept : done (point P k n).turns p + active_at (drive (attempts P k) (point P k n).comp os).active p ≤ calls_at (drive (attempts P k) (point P k n).comp os).entries p = later.kept in
     let most : calls_at (drive (attempts P k) (point P k n).comp os).entries p ≤ weight (P.decl k) p = later.most in
     λ c m e. next_is_head (λ h. h.micro.0 ≢ p) (drive (attempts P k) (point P k n).comp os) c m (none_active _ p (omega arith)) e
+
+pub within : (P : Play) (core : Core) (k p : ℕ) → Invariant P core → k < core.count → is_bound (P.decl k) ≡ true → IsWithin P core k p
+within P core k p i lt b =
+    let at : Of (Counted (P.decl k) p (done (point P k (core.made k)).turns p)) (point P k (core.made k)).comp = counted_point P k p b (core.made k) in
+    let now : Of (Counted (P.decl k) p (done (point P k (core.made k)).turns p)) (core.comp k) =
+    subst (Of (Counted (P.decl k) p (done (point P k (core.made k)).turns p))) (sym (i.calls.comp k lt)) at in
+    record { made = now.kept; most = now.most }

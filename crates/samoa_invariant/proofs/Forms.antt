@@ -1,13 +1,14 @@
 -- Each form of declaration meets what it owes: sets, bounds and routes.
-use Rattle.std.proofs.Common.{ℕ, sym, subst, List}
+use Rattle.std.proofs.Common.{arith, ◌≡◌, ◌<◌, ◌≤◌, ℕ, suc, sym, subst, List}
 use Rattle.samoa_serial.specs.declared.call.Active.{Active}
 use Rattle.samoa_model.specs.declared.script.Decl.{Decl}
 use Rattle.samoa_serial.specs.declared.call.Waiting.{Waiting}
+use Rattle.samoa_model.specs.Allowed.{weight}
 use Rattle.samoa_model.specs.Scripts.{Table}
 use Rattle.samoa_serial.specs.World.{attempts_of}
 use Rattle.samoa_serial.specs.Calls.{Computation}
-use Rattle.samoa_invariant.specs.Play.{Play, table_of, point, IsIdle, Never}
-use Rattle.samoa_invariant.specs.State.{Core, Step, Quiet, ActiveSafe, WaitingSafe, IsEnabled, made_by}
+use Rattle.samoa_invariant.specs.Play.{Play, attempts, table_of, point, version, IsIdle, Never}
+use Rattle.samoa_invariant.specs.State.{CanRelease, Core, Step, Quiet, ActiveSafe, WaitingSafe, IsEnabled, made_by}
 use Rattle.samoa_invariant.specs.Inv.{Meets, Invariant}
 use Rattle.samoa_invariant.proofs.Accepts.{meets_declared, idle_never}
 use Rattle.samoa_invariant.proofs.Bounds.{meets_counting}
@@ -38,3 +39,15 @@ meets P k = record {
 -- the main theorem, for all three forms
 pub enabled_keeps : (P : Play) (core : Core) (step : Step) → Invariant P core → IsEnabled P core step → Invariant P (made_by P core step)
 enabled_keeps P core step i can = step_keeps P (meets P) core step i can
+
+-- what may be released is never met again, and neither is what is past
+pub released_never : (P : Play) (core : Core) (k p : ℕ) → Invariant P core → CanRelease P core k p → Never (attempts P k) (core.comp k) p
+released_never P core k p i can =
+    let quiet : Quiet (P.decl k) (table_of P k) (core.comp k) p = subst (λ (t : Table). Quiet (P.decl k) t (core.comp k) p) (i.booked.table k can.turn.admitted) can.quiet in
+    quiet_never (P.decl k) (table_of P k) (core.comp k) p quiet
+
+pub past_never : (P : Play) (core : Core) (k p : ℕ) → Invariant P core → k < core.count → 0 < weight (P.decl k) p
+    → core.private k (P.node k) p ≤ core.local (P.node k) p → Never (attempts P k) (core.comp k) p
+past_never P core k p i lt some past =
+    let private : core.private k (P.node k) p ≡ version P (suc k) (P.node k) p = i.booked.private k (P.node k) p lt in
+    subst (λ (c : Computation). Never (attempts P k) c p) (sym (i.calls.comp k lt)) (i.no_more k p lt some (omega (arith, private, past)))

@@ -6,3 +6,4 @@ pub mod Walk
 pub mod Settle
 pub mod Parts
 pub mod Runs
+pub mod Within

@@ -3,9 +3,11 @@ ghost use Rattle.std.specs.Prelude.{◌≡◌, ℕ, ◌<◌, ◌≤◌, ◌⊎�
 ghost use Rattle.samoa_model.specs.declared.record.Ext.{Ext};
 ghost use Rattle.samoa_model.specs.declared.ids.HandlerId.{HandlerId};
 ghost use Rattle.samoa_model.specs.declared.script.Script.{Script};
+ghost use Rattle.samoa_model.specs.Allowed.{weight};
 ghost use Rattle.samoa_model.specs.Paths.{IsSafe};
 ghost use Rattle.samoa_serial.specs.SerialRun.{serial};
-ghost use Rattle.samoa_invariant.specs.Play.{Agree, Play, stood};
+ghost use Rattle.samoa_invariant.specs.Play.{Agree, Never, Play, attempts, is_bound, stood};
+ghost use Rattle.samoa_invariant.specs.Within.{IsWithin};
 ghost use Rattle.samoa_invariant.specs.State.{AllEnded, CanRelease, Core, GoesOnTo, IsEnabled, IsForward, IsLeastOpen, IsPicked, IsSettled, NothingOut, Pass, Reached, Step, WholeRun, cells_to, left, made_by, pick, slots};
 ghost use Rattle.samoa_invariant.specs.Parts.{SixParts};
 ghost use Rattle.samoa_invariant.specs.Settle.{settle};
@@ -15,6 +17,19 @@ ghost use Rattle.samoa_invariant.specs.Inv.{AnswersSerially, HasSerialAnswer, In
 /// Every declaration, of any form, meets what the core asks of it.
 pub fn declarations_meet_the_interface()
     ensures meets { (play : Play) (k : ℕ) → Meets play k }
+{}
+
+/// Under a bound the completed and the active calls of a computation at a microprotocol are never more than the bound.
+pub fn bounds_are_kept()
+    ensures within { (play : Play) (core : Core) (k p : ℕ) → Reached play core → k < core.count → is_bound (play.decl k) ≡ true → IsWithin play core k p }
+{}
+
+/// A computation that may release a microprotocol, or is past it, makes no handler step there any more, whatever its
+/// handlers answer from then on.
+pub fn what_is_handed_on_stays_so()
+    ensures released { (play : Play) (core : Core) (k p : ℕ) → Reached play core → CanRelease play core k p → Never (attempts play k) (core.comp k) p }
+    ensures past { (play : Play) (core : Core) (k p : ℕ) → Reached play core → k < core.count → 0 < weight (play.decl k) p
+        → core.private k (play.node k) p ≤ core.local (play.node k) p → Never (attempts play k) (core.comp k) p }
 {}
 
 /// Whatever order the enabled steps come in, the invariant is kept.

@@ -1,0 +1,6 @@
+use Rattle.samoa_invariant.proofs.Bounds.{within}
+use Rattle.samoa_invariant.proofs.Ends.{reached_keeps}
+use Rattle.samoa_invariant.proofs.laws.bounds_are_kept.Goals as goal
+
+pub returns : goal.returns
+returns c = record { within = λ P core k p reached lt bound. within P core k p (reached_keeps P core reached) lt bound }
