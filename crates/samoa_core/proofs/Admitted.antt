@@ -26,7 +26,6 @@ use Rattle.samoa_invariant.specs.Runs.{IsDue, IsRun, Trace, ext_at, no_ext, play
 use Rattle.samoa_invariant.proofs.Agrees.{turns-agree}
 use Rattle.samoa_invariant.proofs.Further.{version-most}
 use Rattle.samoa_invariant.proofs.Room.{admitted_left, turns-most}
-use Rattle.samoa_invariant.proofs.Scripted.{get_is}
 use Rattle.samoa_invariant.proofs.Slots.{put-else, put-here}
 use Rattle.samoa_invariant.proofs.Traces.{invariant, is_run-with_ext, is_run-with_step, state-ext, state-step}
 use Rattle.samoa_invariant.proofs.Versions.{same_or_not, weight_at-else, weight_at-is}
@@ -39,12 +38,12 @@ use Rattle.samoa_core.specs.Since.{cleared_comps}
 use Rattle.samoa_core.specs.Slots.{Grid, Row}
 use Rattle.samoa_core.specs.Kept.{Fields, Holds, Kept, held_of, trace_of}
 use Rattle.samoa_core.proofs.Declares.{weight-most}
-use Rattle.samoa_core.proofs.Facts.{few}
 use Rattle.samoa_core.proofs.Grids.{grid-row, grid-within_same, row-push}
 use Rattle.samoa_core.proofs.Rules.{caused-same, decl-of, table-at}
 use Rattle.samoa_core.proofs.Since.{cleared-ext, cleared-step}
 use Rattle.samoa_core.proofs.Taken.{grid-raised, length-taken, taken-at}
 use Rattle.samoa_core.proofs.Toll.{spare-most, sum-le}
+use Rattle.samoa_core.proofs.Versioned.{global-is}
 
 -- what was there stays in its place
 old_ext : (exts : List Ext) (ext : Ext) (k : ℕ) → k < length exts → ext_at (exts ++ ext ∷ []) k ≡ ext_at exts k
@@ -145,21 +144,19 @@ is_due fs ext kept lt fits =
       enabled = subst (λ (c : model.Core). model.CanAdmit (play t1) c) (sym same) can;
     }
 
--- no version comes near the end of its range
+-- each admission takes 256 versions at most
 pub small : (fs : Fields) (v p : ℕ) → Kept fs → v < fs.script.nodes → p < length fs.script.micros
-    → get_or fs.global (v * length fs.script.micros + p) 0 ≤ 25600000
+    → get_or fs.global (v * length fs.script.micros + p) 0 ≤ length fs.exts * 256
 small fs v p kept lt below =
     let t : Trace = trace_of fs in
     let i : Invariant (play t) (state t) = invariant t kept.is_run in
     let all : (state t).count ≡ length fs.exts = kept.holds.admitted in
-    let most : length fs.exts ≤ 100000 = few fs kept in
     let is : (state t).global v p ≡ version (play t) (state t).count v p = i.versions.global v p in
     let bound : version (play t) (state t).count v p ≤ (state t).count * 256 =
     version-most (play t) 256 (state t).count v p
     (λ k less. weight-most fs.script ((play t).decl k) p (decl-of fs.script (ext_at fs.exts k) kept.in_range (kept.known k (omega (arith, less, all))))) in
-    let cell : get_or fs.global (v * length fs.script.micros + p) 0 ≡ (state t).global v p =
-    get_is {A = ℕ} fs.global (v * length fs.script.micros + p) ((state t).global v p) 0 (kept.holds.global.value v p lt below) in
-    omega (arith, all, most, is, bound, cell)
+    let cell : get_or fs.global (v * length fs.script.micros + p) 0 ≡ (state t).global v p = global-is fs v p kept lt below in
+    omega (arith, all, is, bound, cell)
 
 -- a computation that has just begun: none of its calls waits
 just_begun : (fs : Fields) (ext : Ext) → Kept fs → ext_at (fs.exts ++ ext ∷ []) (state (trace_of fs)).count ≡ ext → Invariant (play (trace_of fs)) (state (trace_of fs))

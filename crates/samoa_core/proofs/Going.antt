@@ -1,5 +1,5 @@
 -- What each handler step keeps of the fields of a core.
-use Rattle.std.proofs.Common.{arith, ◌≡◌, ◌≢◌, ◌⊎◌, inl, inr, ℕ, ◌+◌, ◌-◌, ◌*◌, ◌^◌, ◌<◌, ◌≤◌, refl, sym, ap, subst, ◌∙◌, List, [], ◌∷◌, length, get_or, set, Bool, true, Option, Some, None}
+use Rattle.std.proofs.Common.{arith, ◌≡◌, ◌≢◌, ◌⊎◌, inl, inr, ℕ, ◌+◌, ◌-◌, ◌*◌, ◌<◌, ◌≤◌, refl, sym, ap, subst, ◌∙◌, List, [], ◌∷◌, length, get_or, set, Bool, true, Option, Some, None}
 use Rattle.std.specs.Prelude.{slice_get}
 use Rattle.std.specs.Option.{IfSome}
 use Rattle.samoa_model.specs.Allowed.{weight}
@@ -37,13 +37,14 @@ use Rattle.samoa_core.specs.Since.{cleared_comps}
 use Rattle.samoa_core.specs.Slots.{Grid, Row, Slotted}
 use Rattle.samoa_core.specs.Turns.{Going, HasCome, IsAway, IsNext, IsReady, box_of, taken}
 use Rattle.samoa_core.specs.Kept.{Fields, Kept, held_of, trace_of}
-use Rattle.samoa_core.proofs.Grids.{grid-put, grid-set, grid-within, row-set}
+use Rattle.samoa_core.proofs.Grids.{grid-put, grid-set, row-set}
 use Rattle.samoa_core.proofs.Keeps.{Stands, kept-with, moved}
 use Rattle.samoa_core.proofs.Names.{named_step}
 use Rattle.samoa_core.proofs.Facts.{IsCallOf, IsSound, call_of, next-within, sound}
-use Rattle.samoa_core.proofs.Rising.{grid-risen, local-small}
+use Rattle.samoa_core.proofs.Rising.{grid-risen}
 use Rattle.samoa_core.proofs.Rules.{decl-within, table-of}
 use Rattle.samoa_core.proofs.Toll.{IsOutAt, out_at}
+use Rattle.samoa_core.proofs.Versioned.{out-below, slot-within}
 
 -- one item of a row that begins later is put
 row-put : {A : Type 0} (rows first : ℕ) (cells : List A) (f : ℕ → A) (k : ℕ) (x : A) → first ≤ k → k - first < rows → Row rows cells (λ i. f (first + i))
@@ -234,10 +235,16 @@ completes fs comp p held o completed kept come since lt each =
     each (held_of fs.script fs.exts (state (trace_of fs)) (comp - 1)) head.0 head.1 (comp-there fs comp kept since lt) head.2
     ∙ ap (λ (c : Call). ended_at c o) head.3
 
--- a completed call has its place among the local versions, which is far from the end of its range
+-- a completed call has its place among the versions, of which one is not done with there
 pub record HasPlace (fs : Fields) (v : ℕ) (completed : Option MicroId) : Type 0 where
-  pub there : IfSome completed (λ (micro : MicroId). v * length fs.script.micros + micro.0 < length fs.local)
-  pub small : IfSome completed (λ (micro : MicroId). get_or fs.local (v * length fs.script.micros + micro.0) 0 + 1 < 2 ^ 64)
+  pub there : IfSome completed (λ (micro : MicroId). v * length fs.script.micros + micro.0 < length fs.global)
+  pub below : IfSome completed (λ (micro : MicroId). get_or fs.local (v * length fs.script.micros + micro.0) 0 < get_or fs.global (v * length fs.script.micros + micro.0) 0)
+
+-- a next handler step has one call
+same-call : (next : Option (Call × Moment)) (a b : Call) (m n : Moment) → next ≡ Some (a, m) → next ≡ Some (b, n) → a ≡ b
+same-call next a b m n e f =
+    let pair : let P : Type 0 = Call × Moment in let x : P = (a, m) in x ≡ (b, n) = cc in
+    ap (λ (x : Call × Moment). x.0) pair
 
 if_ended : (c : Call) (o : Outcome) (P : MicroId → Type 0) → P c.handler.micro → IfSome (ended_at c o) P
 if_ended c (Outcome.Done reply) P h = h
@@ -248,18 +255,21 @@ if_ended c (Outcome.Deliver arg frame) P h = tt
 if_ended c (Outcome.Change change arg frame) P h = tt
 
 pub has-place : (fs : Fields) (comp p : ℕ) (held : Seen) (o : Outcome) (completed : Option MicroId) → Kept fs → (come : HasCome (trace_of fs) comp p held o)
-    → comp - 1 < length fs.exts → p < length fs.script.micros → completed ≡ ended_at come.call o → HasPlace fs ((play (trace_of fs)).node (comp - 1)) completed
-has-place fs comp p held o completed kept come lt below is =
+    → model.CanLeave (play (trace_of fs)) (state (trace_of fs)) (comp - 1) → comp - 1 < length fs.exts → p < length fs.script.micros
+    → completed ≡ ended_at come.call o → HasPlace fs ((play (trace_of fs)).node (comp - 1)) completed
+has-place fs comp p held o completed kept come can lt below is =
     let v : ℕ = (play (trace_of fs)).node (comp - 1) in
     let q : ℕ = come.call.handler.micro.0 in
+    let out : IsOutAt (play (trace_of fs)) (state (trace_of fs)) (comp - 1) = out_there fs comp kept can in
+    let call : out.call ≡ come.call = same-call _ out.call come.call out.moment come.moment out.next come.next in
+    let here_out : (state (trace_of fs)).out v q ≡ Some (comp - 1) =
+    subst (λ (c : Call). (state (trace_of fs)).out v c.handler.micro.0 ≡ Some (comp - 1)) call out.out in
     let inside : q < length fs.script.micros = subst (λ (r : ℕ). r < length fs.script.micros) (sym come.is_at) below in
     let node : v < fs.script.nodes = node-within fs (comp - 1) kept lt in
-    let within : v * length fs.script.micros + q < fs.script.nodes * length fs.script.micros = grid-within fs.script.nodes (length fs.script.micros) v q node inside in
-    let size : length fs.local ≡ fs.script.nodes * length fs.script.micros = kept.holds.local.size in
-    let most : get_or fs.local (v * length fs.script.micros + q) 0 ≤ 25600000 = local-small fs v q kept node inside in
     let here : HasPlace fs v (ended_at come.call o) = record {
-      there = if_ended come.call o (λ (micro : MicroId). v * length fs.script.micros + micro.0 < length fs.local) (omega (arith, within, size));
-      small = if_ended come.call o (λ (micro : MicroId). get_or fs.local (v * length fs.script.micros + micro.0) 0 + 1 < 2 ^ 64) (omega (arith, most));
+      there = if_ended come.call o (λ (micro : MicroId). v * length fs.script.micros + micro.0 < length fs.global) (slot-within fs v q kept node inside);
+      below = if_ended come.call o (λ (micro : MicroId). get_or fs.local (v * length fs.script.micros + micro.0) 0 < get_or fs.global (v * length fs.script.micros + micro.0) 0)
+          (out-below fs (comp - 1) v q kept node inside here_out);
     } in
     subst (λ (m : Option MicroId). HasPlace fs v m) (sym is) here
 
@@ -429,9 +439,7 @@ outcome-named fs comp p held o kept come =
 pub due-at : (t : Trace) (comp p : ℕ) (step : MicroId × Moment) → IsDue t (Step.Enter comp p) → next_moment ((state t).comp (comp - 1)) ≡ Some step → p ≡ step.0.0
 due-at t comp p step due e =
     let is : IsCallOf ((state t).comp (comp - 1)) step = call_of ((state t).comp (comp - 1)) step e in
-    let same : Some (due.enabled.next.call, due.enabled.next.moment) ≡ Some (is.call, step.1) = sym due.enabled.next.next ∙ is.next in
-    let pair : let P : Type 0 = Call × Moment in let x : P = (due.enabled.next.call, due.enabled.next.moment) in x ≡ (is.call, step.1) = cc in
-    let call : due.enabled.next.call ≡ is.call = ap (λ (x : Call × Moment). x.0) pair in
+    let call : due.enabled.next.call ≡ is.call = same-call _ due.enabled.next.call is.call due.enabled.next.moment step.1 due.enabled.next.next is.next in
     sym due.enabled.next.is_at ∙ (ap (λ (x : Call). x.handler.micro.0) call ∙ ap (λ (x : MicroId). x.0) is.is_at)
 
 pub kept-release : (fs : Fields) (comp p x : ℕ) → Kept fs → IsDue (trace_of fs) (Step.Release comp p) → p < length fs.script.micros

@@ -13,6 +13,7 @@ pub mod Settling
 pub mod Since
 pub mod Tests
 pub mod Toll
+pub mod Versioned
 pub mod Taken
 pub mod Admitted
 pub mod Answered

@@ -1,27 +1,19 @@
 -- What becomes of the local versions where a call is completed.
-use Rattle.std.proofs.Common.{arith, ◌≡◌, ◌≢◌, ◌⊎◌, inl, inr, ℕ, zero, suc, ◌+◌, ◌*◌, ◌<◌, ◌≤◌, refl, sym, ap, subst, ◌∙◌, List, [], ◌∷◌, length, get_or, Bool, true, false, ◌||◌, ◌==◌, if◌then◌else◌}
+use Rattle.std.proofs.Common.{arith, ◌≡◌, ◌≢◌, ◌⊎◌, inl, inr, ℕ, zero, suc, ◌+◌, ◌*◌, ◌<◌, refl, sym, ap, subst, ◌∙◌, List, [], ◌∷◌, get_or, Bool, true, false, ◌||◌, ◌==◌, if◌then◌else◌}
 use Rattle.std.specs.List.{list_any}
 use Rattle.samoa_model.specs.Allowed.{bound_in, weight}
 use Rattle.samoa_model.specs.declared.handler.Outcome.{Outcome}
 use Rattle.samoa_model.specs.declared.script.Decl.{Decl}
 use Rattle.samoa_calls.specs.Handed.{ended_at}
 use Rattle.samoa_serial.specs.declared.call.Call.{Call}
-use Rattle.samoa_invariant.specs.Inv.{Invariant}
-use Rattle.samoa_invariant.specs.Play.{is_bound, version}
+use Rattle.samoa_invariant.specs.Play.{is_bound}
 use Rattle.samoa_invariant.specs.Slots.{At, put_at}
 use Rattle.samoa_invariant.specs.State.{raise}
-use Rattle.samoa_invariant.specs.Runs.{Trace, ext_at, play, state}
-use Rattle.samoa_invariant.proofs.Further.{version-most}
 use Rattle.samoa_invariant.proofs.Scripted.{get_is}
 use Rattle.samoa_invariant.proofs.Slots.{put_at-else, put_at-here, slot_or_not}
-use Rattle.samoa_invariant.proofs.Traces.{invariant}
 use Rattle.samoa_core.specs.Forms.{raised_if, raises, risen}
 use Rattle.samoa_core.specs.Slots.{Grid}
-use Rattle.samoa_core.specs.Kept.{Fields, Kept, trace_of}
-use Rattle.samoa_core.proofs.Declares.{weight-most}
-use Rattle.samoa_core.proofs.Facts.{few}
 use Rattle.samoa_core.proofs.Grids.{grid-put, grid-same}
-use Rattle.samoa_core.proofs.Rules.{decl-of}
 
 -- what a bound allows some calls of is named by it
 bound_named : (bounds : List (ℕ × ℕ)) (p : ℕ) → 0 < bound_in bounds p → list_any (λ b. b.0 == p) bounds ≡ true
@@ -80,19 +72,3 @@ grid-risen d c (Outcome.Later event arg frame) rows columns cells f v lt below d
 grid-risen d c (Outcome.Send to event arg frame) rows columns cells f v lt below declared grid = grid-still rows columns cells f v c.handler.micro.0 _ (if_zero (is_bound d)) grid
 grid-risen d c (Outcome.Deliver arg frame) rows columns cells f v lt below declared grid = grid-still rows columns cells f v c.handler.micro.0 _ (if_zero (is_bound d)) grid
 grid-risen d c (Outcome.Change change arg frame) rows columns cells f v lt below declared grid = grid-still rows columns cells f v c.handler.micro.0 _ (if_zero (is_bound d)) grid
-
--- no local version comes near the end of its range
-pub local-small : (fs : Fields) (v p : ℕ) → Kept fs → v < fs.script.nodes → p < length fs.script.micros
-    → get_or fs.local (v * length fs.script.micros + p) 0 ≤ 25600000
-local-small fs v p kept lt below =
-    let t : Trace = trace_of fs in
-    let i : Invariant (play t) (state t) = invariant t kept.is_run in
-    let all : (state t).count ≡ length fs.exts = kept.holds.admitted in
-    let most : length fs.exts ≤ 100000 = few fs kept in
-    let is : (state t).local v p ≤ version (play t) (state t).count v p = i.versions.local v p in
-    let bound : version (play t) (state t).count v p ≤ (state t).count * 256 =
-    version-most (play t) 256 (state t).count v p
-    (λ k less. weight-most fs.script ((play t).decl k) p (decl-of fs.script (ext_at fs.exts k) kept.in_range (kept.known k (omega (arith, less, all))))) in
-    let cell : get_or fs.local (v * length fs.script.micros + p) 0 ≡ (state t).local v p =
-    get_is {A = ℕ} fs.local (v * length fs.script.micros + p) ((state t).local v p) 0 (kept.holds.local.value v p lt below) in
-    omega (arith, all, most, is, bound, cell)

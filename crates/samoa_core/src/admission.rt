@@ -9,10 +9,12 @@ ghost use Rattle.samoa_model.specs.Scripts.{decl_of};
 ghost use Rattle.samoa_bind.specs.Bound.{first_tables};
 ghost use Rattle.samoa_calls.specs.Handed.{fresh};
 ghost use Rattle.samoa_invariant.specs.Runs.{Trace, play, state};
+ghost use Rattle.samoa_versions.specs.Counters.{gv_at};
 ghost use Rattle.samoa_core.specs.Admission.{admitted, raised, started, steps_of as steps_to_come, taken_versions, version_after};
 ghost use Rattle.samoa_core.specs.Scans.{IsStill};
 ghost use Rattle.samoa_core.specs.Since.{cleared_comps};
 
+use crate::cells::place;
 use crate::forms::{named_count, weight};
 use crate::kernel::Core;
 use crate::parts::{cells_of, decl_in, decl_number, root_of};
@@ -20,6 +22,7 @@ use samoa_bind::Tables;
 use samoa_calls::Comp;
 use samoa_micro::Micro;
 use samoa_model::{Decl, DeclDef, Ext, NoMemory, Script, Step};
+use samoa_versions::Versions;
 use std::alloc::Global;
 
 impl<B: Micro> Core<B> {
@@ -65,7 +68,7 @@ impl<B: Micro> Core<B> {
             &mut self.journal,
         ) {
             Ok((comp, promised)) => {
-                versions_of(&self.script, &ext, &mut self.global, &mut self.private);
+                versions_of(&self.script, &ext, &mut self.versions, &mut self.private);
                 self.held += cells_of(&self.script, &ext);
                 self.promised = promised;
                 self.exts.push_reserved(ext);
@@ -188,19 +191,26 @@ fn steps_for(decl: &DeclDef) -> Result<u64, NoMemory>
 }
 
 /// Takes the versions of the node of an admission for its computation.
-fn versions_of(script: &Script, ext: &Ext, global: &mut Vec<u64>, private: &mut Vec<u64>)
+fn versions_of(script: &Script, ext: &Ext, versions: &mut Versions, private: &mut Vec<u64>)
     requires in_range { IsInRange script.now }
     requires built { IsBuilt script.now }
     requires known { IsExtOf script.now ext.now }
-    requires there { length global.old.items ≡ script.now.nodes * length script.now.micros }
-    requires small { (p : ℕ) → p < length script.now.micros → get_or global.old.items (ext.now.node.0 * length script.now.micros + p) 0 + 256 < 2 ^ 64 }
+    requires there { length versions.old.gv ≡ script.now.nodes * length script.now.micros }
+    requires small { (p : ℕ) → p < length script.now.micros → gv_at versions.old (ext.now.node.0 * length script.now.micros + p) < 25600000 }
     requires room { length private.old.items + length script.now.micros ≤ vec_capacity private.old }
-    ensures global { global.new.items ≡ raised (decl_of script.now ext.now).decl (length script.now.micros) ext.now.node.0 global.old.items (length script.now.micros) }
-    ensures private { private.new.items ≡ private.old.items ++ taken_versions (decl_of script.now ext.now).decl (length script.now.micros) ext.now.node.0 global.old.items (length script.now.micros) }
+    ensures gv { versions.new.gv ≡ raised (decl_of script.now ext.now).decl (length script.now.micros) ext.now.node.0 versions.old.gv (length script.now.micros) }
+    ensures lv { versions.new.lv ≡ versions.old.lv }
+    ensures private { private.new.items ≡ private.old.items ++ taken_versions (decl_of script.now ext.now).decl (length script.now.micros) ext.now.node.0 versions.old.gv (length script.now.micros) }
 {
     let number = decl_number(script, ext);
     let decl = decl_in(script, number);
-    take_versions(&decl.decl, script.micros.len(), ext.node.0, global, private);
+    take_versions(
+        &decl.decl,
+        script.micros.len(),
+        ext.node.0,
+        versions,
+        private,
+    );
 }
 
 /// Takes the versions of a node for one more computation: each version rises by what the declaration allows of its
@@ -209,34 +219,34 @@ fn take_versions(
     decl: &Decl,
     columns: usize,
     node: u32,
-    global: &mut Vec<u64>,
+    versions: &mut Versions,
     private: &mut Vec<u64>,
 )
     requires weights { (p : ℕ) → weight decl.now p ≤ 256 }
-    requires there { node * columns + columns ≤ length global.old.items }
-    requires small { (p : ℕ) → p < columns → get_or global.old.items (node * columns + p) 0 + 256 < 2 ^ 64 }
+    requires there { node * columns + columns ≤ length versions.old.gv }
+    requires small { (p : ℕ) → p < columns → gv_at versions.old (node * columns + p) < 25600000 }
     requires few { columns ≤ 24 }
     requires room { length private.old.items + columns ≤ vec_capacity private.old }
-    ensures global { global.new.items ≡ raised decl.now columns node global.old.items columns }
-    ensures private { private.new.items ≡ private.old.items ++ taken_versions decl.now columns node global.old.items columns }
+    ensures gv { versions.new.gv ≡ raised decl.now columns node versions.old.gv columns }
+    ensures lv { versions.new.lv ≡ versions.old.lv }
+    ensures private { private.new.items ≡ private.old.items ++ taken_versions decl.now columns node versions.old.gv columns }
 {
     let mut micro = 0;
     while (micro as usize) < columns {
-        let version = take_version(decl, columns, node, micro, global);
+        let version = take_version(decl, columns, node, micro, versions);
         private.push_reserved(version);
         micro += 1;
     }
 }
 
-fn take_version(decl: &Decl, columns: usize, node: u32, micro: u32, global: &mut Vec<u64>) -> u64
+fn take_version(decl: &Decl, columns: usize, node: u32, micro: u32, versions: &mut Versions) -> u64
     requires light { weight decl.now micro ≤ 256 }
-    requires there { node * columns + micro < length global.old.items }
-    requires small { get_or global.old.items (node * columns + micro) 0 + 256 < 2 ^ 64 }
-    ensures version { result ≡ version_after decl.now columns node global.old.items micro }
-    ensures raised { global.new.items ≡ set global.old.items (node * columns + micro) result }
+    requires few { columns ≤ 24 }
+    requires there { node * columns + micro < length versions.old.gv }
+    requires small { gv_at versions.old (node * columns + micro) < 25600000 }
+    ensures version { result ≡ version_after decl.now columns node versions.old.gv micro }
+    ensures gv { versions.new.gv ≡ set versions.old.gv (node * columns + micro) result }
+    ensures lv { versions.new.lv ≡ versions.old.lv }
 {
-    let at = node as usize * columns + micro as usize;
-    let version = global[at] + weight(decl, micro);
-    global[at] = version;
-    version
+    versions.admit(place(columns, node, micro), weight(decl, micro))
 }

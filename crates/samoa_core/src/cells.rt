@@ -1,21 +1,16 @@
-//! Tables of numbers with one row after another, and the test of a turn.
-ghost use Rattle.std.specs.Prelude.{◌≡◌, ◌<◌, ◌≤◌, ◌+◌, ◌*◌, ℕ, length, Some, slice_get, set, List, [], replicate, IfOk, vec_capacity, ◌++◌, ◌∷◌, ◌-◌};
+//! Tables of numbers with one row after another, and the journal's next step.
+ghost use Rattle.std.specs.Prelude.{◌≡◌, ◌<◌, ◌≤◌, ◌+◌, ◌-◌, ◌*◌, length, Some, slice_get, [], ◌∷◌, ◌++◌, vec_capacity};
 ghost use Rattle.samoa_model.specs.declared.record.Step.{Step};
 ghost use Rattle.samoa_invariant.specs.State.{or_last};
-ghost use Rattle.samoa_core.specs.Scans.{has_turn};
 
-use samoa_model::{NoMemory, Step};
-use std::alloc::Global;
+use samoa_model::Step;
 
-/// So many zeros.
-pub(crate) fn zeros(alloc: Global, count: usize) -> Result<Vec<u64>, NoMemory>
-    ensures { IfOk result (λ cells. cells.items ≡ replicate count 0) }
+/// The place of a cell in a table with few columns.
+pub(crate) fn place(columns: usize, row: u32, column: u32) -> usize
+    requires { columns ≤ 24 }
+    ensures { result ≡ row * columns + column }
 {
-    let mut cells = Vec::new(alloc);
-    for _cell in 0..count {
-        cells.push(0)?;
-    }
-    Ok(cells)
+    row as usize * columns + column as usize
 }
 
 pub(crate) fn read(cells: &[u64], columns: usize, row: u32, column: u32) -> u64
@@ -23,13 +18,6 @@ pub(crate) fn read(cells: &[u64], columns: usize, row: u32, column: u32) -> u64
     ensures { slice_get cells.now (row * columns + column) ≡ Some result }
 {
     cells[row as usize * columns + column as usize]
-}
-
-pub(crate) fn write(cells: &mut Vec<u64>, columns: usize, row: u32, column: u32, value: u64)
-    requires { row * columns + column < length cells.old.items }
-    ensures { cells.new.items ≡ set cells.old.items (row * columns + column) value }
-{
-    cells[row as usize * columns + column as usize] = value;
 }
 
 /// Notes a step, for which room was promised.
@@ -52,11 +40,4 @@ pub(crate) fn or_last(found: Option<u32>, ready: bool, comp: u32) -> Option<u32>
         Some(first) => Some(first),
         None => { if ready { Some(comp) } else { None } }
     }
-}
-
-/// Whether it is the turn of a private version.
-pub(crate) fn has_turn(private: u64, local: u64, weight: u64) -> bool
-    ensures { result ≡ has_turn private local weight }
-{
-    local < private && private - local <= weight
 }

@@ -12,10 +12,10 @@ use samoa_declare::{Standing, weight as weight_of};
 use samoa_model::{Decl, MicroId};
 
 /// How much a declaration allows of a microprotocol.
-pub(crate) fn weight(decl: &Decl, micro: u32) -> u64
+pub(crate) fn weight(decl: &Decl, micro: u32) -> u32
     ensures { result ≡ weight decl.now micro }
 {
-    u64::from(weight_of(decl, MicroId(micro)))
+    weight_of(decl, MicroId(micro))
 }
 
 /// How many microprotocols a declaration names, those that it names again counted again.

@@ -13,7 +13,7 @@ ghost use Rattle.samoa_core.specs.Since.{cleared_comps};
 ghost use Rattle.samoa_core.specs.Places.{away, out_at, out_of, out_one};
 ghost use Rattle.samoa_core.specs.Scans.{ended_to, has_turn, is_idle};
 
-use crate::cells::{has_turn, read, zeros};
+use crate::cells::{place, read};
 use crate::forms::{may_release, weight};
 use crate::parts::{cells_of, decl_in, decl_number};
 use crate::slots::Slots;
@@ -21,6 +21,7 @@ use samoa_bind::Tables;
 use samoa_calls::Comp;
 use samoa_micro::{Micro, Stock};
 use samoa_model::{Decl, Ext, MicroId, Moment, NoMemory, NodeId, Script, Step};
+use samoa_versions::Versions;
 use std::alloc::Global;
 use std::marker::Model;
 
@@ -36,8 +37,7 @@ pub struct Core<B: Micro> {
     pub(crate) held: u32,
     pub(crate) tables: Tables,
     pub(crate) slots: Slots<B>,
-    pub(crate) global: Vec<u64>,
-    pub(crate) local: Vec<u64>,
+    pub(crate) versions: Versions,
     pub(crate) exts: Vec<Ext>,
     pub(crate) clears: Vec<u64>,
     pub(crate) journal: Vec<Step>,
@@ -80,16 +80,14 @@ impl<B: Micro> Core<B> {
         let tables = Tables::new(alloc, &script)?;
         let slots = Slots::set_up(alloc, &script, stock)?;
         let count = script.nodes as usize * script.micros.len();
-        let global = zeros(alloc, count)?;
-        let local = zeros(alloc, count)?;
+        let versions = Versions::new(alloc, count)?;
         Ok(Core {
             script,
             cells,
             held: 0,
             tables,
             slots,
-            global,
-            local,
+            versions,
             exts: Vec::new(alloc),
             clears: Vec::new(alloc),
             journal: Vec::new(alloc),
@@ -188,6 +186,17 @@ impl<B: Micro> Core<B> {
         &decl_in(&self.script, number).decl
     }
 
+    /// The slot of a microprotocol at a computation's node.
+    pub(crate) fn slot(&self, comp: u32, micro: u32) -> usize
+        requires first { 0 < comp }
+        requires admitted { comp ≤ length self.now.exts }
+        requires micro { micro < length self.now.script.micros }
+        ensures { result ≡ (play self.now).node (comp - 1) * length self.now.script.micros + micro }
+    {
+        let node = self.node(comp);
+        place(self.script.micros.len(), node.0, micro)
+    }
+
     pub(crate) fn private(&self, comp: u32, micro: u32) -> u64
         requires kept { cleared_comps self.now < comp }
         requires admitted { comp ≤ length self.now.exts }
@@ -209,13 +218,21 @@ impl<B: Micro> Core<B> {
         requires micro { micro < length self.now.script.micros }
         ensures { result ≡ (state self.now).local ((play self.now).node (comp - 1)) micro }
     {
-        let node = self.node(comp);
-        read(
-            self.local.as_slice(),
-            self.script.micros.len(),
-            node.0,
-            micro,
-        )
+        let slot = self.slot(comp, micro);
+        self.versions.local(slot)
+    }
+
+    /// Whether it is a computation's turn at a microprotocol.
+    pub(crate) fn has_turn(&self, comp: u32, micro: u32) -> bool
+        requires kept { cleared_comps self.now < comp }
+        requires admitted { comp ≤ length self.now.exts }
+        requires micro { micro < length self.now.script.micros }
+        ensures { result ≡ has_turn ((state self.now).private (comp - 1) ((play self.now).node (comp - 1)) micro) ((state self.now).local ((play self.now).node (comp - 1)) micro) (weight ((play self.now).decl (comp - 1)) micro) }
+    {
+        let slot = self.slot(comp, micro);
+        let private = self.private(comp, micro);
+        let weight = weight(self.declaration(comp), micro);
+        self.versions.turn(slot, private, weight)
     }
 
     pub(crate) fn has_ended(&self, comp: u32) -> bool
@@ -281,9 +298,7 @@ impl<B: Micro> Core<B> {
         ensures { result ≡ (has_turn ((state self.now).private (comp - 1) ((play self.now).node (comp - 1)) micro) ((state self.now).local ((play self.now).node (comp - 1)) micro) (weight ((play self.now).decl (comp - 1)) micro)
             && (model.is_home ((state self.now).out ((play self.now).node (comp - 1)) micro) && not (state self.now).stopped)) }
     {
-        let weight = weight(self.declaration(comp), micro);
-        has_turn(self.private(comp, micro), self.local(comp, micro), weight)
-            && (self.is_home(self.node(comp), micro) && !self.stopped())
+        self.has_turn(comp, micro) && (self.is_home(self.node(comp), micro) && !self.stopped())
     }
 
     /// Whether the next handler step of a computation may begin.

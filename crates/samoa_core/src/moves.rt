@@ -112,7 +112,7 @@ impl<B: Micro> Core<B> {
             outcome,
         );
         let ext = &self.exts[comp as usize - 1];
-        raise(&self.script, ext, completed, &mut self.local);
+        raise(&self.script, ext, completed, &mut self.versions);
         note(&mut self.journal, &mut self.promised, Step::Leave { comp });
     }
 

@@ -1,5 +1,5 @@
 //! The parts of a script that an admission is judged by.
-ghost use Rattle.std.specs.Prelude.{◌≡◌, ◌<◌, ◌≤◌, ◌+◌, ◌*◌, ◌^◌, List, ◌∷◌, length, Some, IfSome, get_or, slice_get, set};
+ghost use Rattle.std.specs.Prelude.{◌≡◌, ◌<◌, ◌≤◌, ◌+◌, ◌*◌, List, ◌∷◌, length, Some, IfSome, slice_get, set};
 ghost use Rattle.samoa_model.specs.Cells.{cells_of as computation_cells};
 ghost use Rattle.samoa_model.specs.Range.{IsBuilt, IsCauseOf, IsExtOf, IsInRange};
 ghost use Rattle.samoa_model.specs.Scripts.{decl_at, decl_of, first_table, root_of as root_event};
@@ -7,14 +7,17 @@ ghost use Rattle.samoa_bind.specs.Bound.{first_tables};
 ghost use Rattle.samoa_calls.specs.Held.{Held};
 ghost use Rattle.samoa_calls.specs.Handed.{AreNamed, IsNamed, ended_at};
 ghost use Rattle.samoa_serial.specs.declared.call.Active.{Active};
+ghost use Rattle.samoa_versions.specs.Counters.{gv_at, lv_at};
 ghost use Rattle.samoa_core.specs.Forms.{IsTestable, risen};
 ghost use Rattle.samoa_core.specs.Turns.{IsReady, taken};
 ghost use Rattle.samoa_core.specs.Known.{decl_number as declaration_number};
 
+use crate::cells::place;
 use crate::forms::raises;
 use samoa_bind::Tables;
 use samoa_calls::Comp;
 use samoa_model::{Cause, Decl, DeclDef, EventId, Ext, MicroId, NodeId, Outcome, Script};
+use samoa_versions::Versions;
 
 /// The event that is called when a computation begins.
 pub(crate) fn root_of(script: &Script, cause: Cause) -> EventId
@@ -107,17 +110,24 @@ fn go_on(
 }
 
 /// Raises the local version of the microprotocol at which a computation completed a call, if it completed one and its
-/// declaration does so.
-pub(crate) fn raise(script: &Script, ext: &Ext, completed: Option<MicroId>, local: &mut Vec<u64>)
+/// declaration does so. That version is below the global one.
+pub(crate) fn raise(script: &Script, ext: &Ext, completed: Option<MicroId>, versions: &mut Versions)
     requires in_range { IsInRange script.now }
     requires known { IsExtOf script.now ext.now }
-    requires there { IfSome completed (λ micro. ext.now.node.0 * length script.now.micros + micro.0 < length local.old.items) }
-    requires small { IfSome completed (λ micro. get_or local.old.items (ext.now.node.0 * length script.now.micros + micro.0) 0 + 1 < 2 ^ 64) }
-    ensures { local.new.items ≡ risen (decl_of script.now ext.now).decl (length script.now.micros) ext.now.node.0 completed local.old.items }
+    requires there { IfSome completed (λ micro. ext.now.node.0 * length script.now.micros + micro.0 < length versions.old.gv) }
+    requires below { IfSome completed (λ micro. lv_at versions.old (ext.now.node.0 * length script.now.micros + micro.0) < gv_at versions.old (ext.now.node.0 * length script.now.micros + micro.0)) }
+    ensures lv { versions.new.lv ≡ risen (decl_of script.now ext.now).decl (length script.now.micros) ext.now.node.0 completed versions.old.lv }
+    ensures gv { versions.new.gv ≡ versions.old.gv }
 {
     let number = decl_number(script, ext);
     let decl = decl_in(script, number);
-    raise_at(&decl.decl, script.micros.len(), ext.node, completed, local);
+    raise_at(
+        &decl.decl,
+        script.micros.len(),
+        ext.node,
+        completed,
+        versions,
+    );
 }
 
 fn raise_at(
@@ -125,16 +135,18 @@ fn raise_at(
     columns: usize,
     node: NodeId,
     completed: Option<MicroId>,
-    local: &mut Vec<u64>,
+    versions: &mut Versions,
 )
     requires testable { IsTestable decl.now }
-    requires there { IfSome completed (λ micro. node.0 * columns + micro.0 < length local.old.items) }
-    requires small { IfSome completed (λ micro. get_or local.old.items (node.0 * columns + micro.0) 0 + 1 < 2 ^ 64) }
-    ensures { local.new.items ≡ risen decl.now columns node.0 completed local.old.items }
+    requires few { columns ≤ 24 }
+    requires there { IfSome completed (λ micro. node.0 * columns + micro.0 < length versions.old.gv) }
+    requires below { IfSome completed (λ micro. lv_at versions.old (node.0 * columns + micro.0) < gv_at versions.old (node.0 * columns + micro.0)) }
+    ensures lv { versions.new.lv ≡ risen decl.now columns node.0 completed versions.old.lv }
+    ensures gv { versions.new.gv ≡ versions.old.gv }
 {
     if let Some(micro) = completed {
         if raises(decl, micro) {
-            local[node.0 as usize * columns + micro.0 as usize] += 1;
+            versions.raise(place(columns, node.0, micro.0));
         }
     }
 }

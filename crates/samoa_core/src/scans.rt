@@ -7,7 +7,7 @@ ghost use Rattle.samoa_core.specs.Since.{cleared_comps};
 ghost use Rattle.samoa_core.specs.Places.{away, out_at, out_of, out_one};
 ghost use Rattle.samoa_core.specs.Scans.{IsLater, IsStill, all_past, ended_to, ends, finished, is_past, may_end, may_release, released, releases, releases_of, settled, try_end, try_release, with_journal};
 
-use crate::cells::{has_turn, note, or_last, write};
+use crate::cells::{note, or_last};
 use crate::forms::weight;
 use crate::kernel::Core;
 use samoa_micro::Micro;
@@ -139,9 +139,7 @@ impl<B: Micro> Core<B> {
         ensures { result ≡ may_release (play self.now) (state self.now) (comp - 1) micro }
     {
         let weight = weight(self.declaration(comp), micro);
-        0 < weight
-            && (has_turn(self.private(comp, micro), self.local(comp, micro), weight)
-                && self.is_quiet(comp, micro))
+        0 < weight && (self.has_turn(comp, micro) && self.is_quiet(comp, micro))
     }
 
     /// Makes a release that is due.
@@ -151,15 +149,10 @@ impl<B: Micro> Core<B> {
         requires within { micro < length self.old.script.micros }
         ensures step { self.new ≡ with_step self.old (Step.Release comp micro) }
     {
+        let slot = self.slot(comp, micro);
         let private = self.private(comp, micro);
-        let node = self.node(comp);
-        write(
-            &mut self.local,
-            self.script.micros.len(),
-            node.0,
-            micro,
-            private,
-        );
+        let weight = weight(self.declaration(comp), micro);
+        self.versions.finish(slot, private, weight);
         note(
             &mut self.journal,
             &mut self.promised,

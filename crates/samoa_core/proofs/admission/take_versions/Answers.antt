@@ -5,8 +5,8 @@ use Rattle.samoa_core.proofs.admission.take_versions.Goals as goal
 
 pub take_version-version-requires-clause-there : goal.take_version-version-requires-clause-there
 take_version-version-requires-clause-there c =
-    let long : length c.loop-micro.global.items ≡ length c.args.global.now.items =
-    ap length c.loop-micro.invariant.global ∙ length-raised c.args.decl.now c.args.columns c.args.node c.args.global.now.items c.loop-micro.micro in
+    let long : length c.loop-micro.versions.gv ≡ length c.args.versions.now.gv =
+    ap length c.loop-micro.invariant.gv ∙ length-raised c.args.decl.now c.args.columns c.args.node c.args.versions.now.gv c.loop-micro.micro in
     let there = c.requires.there in
     let below = c.loop-micro-test.true in
     omega (arith, long, there, below)
@@ -15,14 +15,14 @@ pub take_version-version-requires-clause-small : goal.take_version-version-requi
 take_version-version-requires-clause-small c =
     let below = c.loop-micro-test.true in
     let small = c.requires.small c.loop-micro.micro below in
-    rw (c.loop-micro.invariant.global, raised-else c.args.decl.now c.args.columns c.args.node c.args.global.now.items c.loop-micro.micro c.loop-micro.micro (omega arith)) small
+    rw (c.loop-micro.invariant.gv, raised-else c.args.decl.now c.args.columns c.args.node c.args.versions.now.gv c.loop-micro.micro c.loop-micro.micro (omega arith)) small
 
 pub push_reserved-requires : goal.push_reserved-requires
 push_reserved-requires c =
-    let row : List ℕ = taken_versions c.args.decl.now c.args.columns c.args.node c.args.global.now.items c.loop-micro.micro in
+    let row : List ℕ = taken_versions c.args.decl.now c.args.columns c.args.node c.args.versions.now.gv c.loop-micro.micro in
     let long : length c.loop-micro.private.items ≡ length c.args.private.now.items + length row =
     ap length c.loop-micro.invariant.private ∙ length-append c.args.private.now.items row in
-    let short : length row ≡ c.loop-micro.micro = length-taken c.args.decl.now c.args.columns c.args.node c.args.global.now.items c.loop-micro.micro in
+    let short : length row ≡ c.loop-micro.micro = length-taken c.args.decl.now c.args.columns c.args.node c.args.versions.now.gv c.loop-micro.micro in
     let below = c.loop-micro-test.true in
     let same = c.loop-micro.invariant.room in
     let room = c.requires.room in
@@ -32,11 +32,12 @@ push_reserved-requires c =
 pub loop-micro-preserved : goal.loop-micro-preserved
 loop-micro-preserved c =
     let n : ℕ = c.loop-micro.micro in
-    let cells : List ℕ = c.args.global.now.items in
+    let cells : List ℕ = c.args.versions.now.gv in
     let version : c.take_version-version.result ≡ version_after c.args.decl.now c.args.columns c.args.node (raised c.args.decl.now c.args.columns c.args.node cells n) n =
-    c.take_version-version.ensures.version ∙ ap (λ (xs : List ℕ). version_after c.args.decl.now c.args.columns c.args.node xs n) c.loop-micro.invariant.global in
+    c.take_version-version.ensures.version ∙ ap (λ (xs : List ℕ). version_after c.args.decl.now c.args.columns c.args.node xs n) c.loop-micro.invariant.gv in
     record {
-      global = rw (add-one, c.take_version-version.ensures.raised, c.loop-micro.invariant.global, version) refl;
+      gv = rw (add-one, c.take_version-version.ensures.gv, c.loop-micro.invariant.gv, version) refl;
+      lv = c.take_version-version.ensures.lv ∙ c.loop-micro.invariant.lv;
       private = rw (add-one, c.push_reserved.ensures.items, c.loop-micro.invariant.private, version) (append_assoc c.args.private.now.items (taken_versions c.args.decl.now c.args.columns c.args.node cells n) (version_after c.args.decl.now c.args.columns c.args.node (raised c.args.decl.now c.args.columns c.args.node cells n) n ∷ []));
       room = c.push_reserved.ensures.capacity ∙ c.loop-micro.invariant.room;
       below = omega (arith, c.loop-micro-test.true);

@@ -5,8 +5,9 @@ use Rattle.samoa_core.proofs.admission.take_versions.Given as goal
 
 abbrev pub invariant-loop-micro : goal.invariant-loop-micro
 invariant-loop-micro l = record {
-  global : l.global.items ≡ raised l.decl l.columns l.node l.initial.global.items l.micro;
-  private : l.private.items ≡ l.initial.private.items ++ taken_versions l.decl l.columns l.node l.initial.global.items l.micro;
+  gv : l.versions.gv ≡ raised l.decl l.columns l.node l.initial.versions.gv l.micro;
+  lv : l.versions.lv ≡ l.initial.versions.lv;
+  private : l.private.items ≡ l.initial.private.items ++ taken_versions l.decl l.columns l.node l.initial.versions.gv l.micro;
   room : vec_capacity l.private ≡ vec_capacity l.initial.private;
   below : l.micro ≤ l.columns;
 }

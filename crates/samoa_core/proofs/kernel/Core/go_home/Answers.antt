@@ -59,8 +59,8 @@ raise-requires g c =
     completes fs c.args.comp c.args.micro c.args.held c.args.outcome c.take_in-completed.result kept come since lt c.take_in-completed.ensures.completed in
     let place : HasPlace fs c.index-ext.result.now.node.0 c.take_in-completed.result =
     subst (λ (x : Ext). HasPlace fs x.node.0 c.take_in-completed.result) ext
-    (has-place fs c.args.comp c.args.micro c.args.held c.args.outcome c.take_in-completed.result kept come lt within completed) in
-    record { in_range = kept.in_range; known = subst (λ (x : Ext). IsExtOf fs.script x) ext (kept.known k lt); there = place.there; small = place.small }
+    (has-place fs c.args.comp c.args.micro c.args.held c.args.outcome c.take_in-completed.result kept come due.enabled lt within completed) in
+    record { in_range = kept.in_range; known = subst (λ (x : Ext). IsExtOf fs.script x) ext (kept.known k lt); there = place.there; below = place.below }
 
 pub invariant_of-self : goal.invariant_of-self
 invariant_of-self g c =
@@ -79,9 +79,9 @@ invariant_of-self g c =
     let ext : c.index-ext.result.now ≡ ext_at fs.exts k = c.index-ext.ensures ∙ get_or_default fs.exts k c.index-ext.result.now no_ext lt in
     let completed : c.take_in-completed.result ≡ ended_at come.call c.args.outcome =
     completes fs c.args.comp c.args.micro c.args.held c.args.outcome c.take_in-completed.result kept come since lt c.take_in-completed.ensures.completed in
-    let local : c.raise.new.local.items ≡ risen ((play t).decl k) (length fs.script.micros) ((play t).node k) (ended_at come.call c.args.outcome) fs.local =
-    c.raise.ensures
+    let local : c.raise.new.versions.lv ≡ risen ((play t).decl k) (length fs.script.micros) ((play t).node k) (ended_at come.call c.args.outcome) fs.local =
+    c.raise.ensures.lv
     ∙ (ap (λ (x : Ext). risen (decl_of fs.script x).decl (length fs.script.micros) x.node.0 c.take_in-completed.result fs.local) ext
     ∙ ap (λ (m : Option MicroId). risen ((play t).decl k) (length fs.script.micros) ((play t).node k) m fs.local) completed) in
-    rw (c.note.ensures.steps, c.note.ensures.room, c.note.ensures.promised, c.put.ensures, node, c.take_in-completed.ensures.taken h here, local)
+    rw (c.note.ensures.steps, c.note.ensures.room, c.note.ensures.promised, c.put.ensures, node, c.take_in-completed.ensures.taken h here, c.raise.ensures.gv, local)
     (kept-leave fs c.args.comp c.args.micro c.args.held c.args.outcome (taken fs.script h c.args.outcome) kept due come since within refl (c.take_in-completed.ensures.named h here))

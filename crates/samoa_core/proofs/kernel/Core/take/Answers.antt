@@ -13,8 +13,9 @@ pub versions_of-requires-clause-small : goal.versions_of-requires-clause-small
 versions_of-requires-clause-small g c p below =
     let fs : Fields = fields_of c.self.inside in
     let known : IsExtOf fs.script c.args.ext = subst (λ (x : Trace). IsExtOf x.script c.args.ext) (sym c.self.view_is) c.requires.known in
-    let most : get_or fs.global (c.args.ext.node.0 * length fs.script.micros + p) 0 ≤ 25600000 = small fs c.args.ext.node.0 p c.self.invariant known.node below in
-    omega (arith, most)
+    let few : length fs.exts < 100000 = subst (λ (x : Trace). length x.exts < 100000) (sym c.self.view_is) c.requires.few in
+    let most : get_or fs.global (c.args.ext.node.0 * length fs.script.micros + p) 0 ≤ length fs.exts * 256 = small fs c.args.ext.node.0 p c.self.invariant known.node below in
+    omega (arith, most, few)
 
 pub invariant_of-self : goal.invariant_of-self
 invariant_of-self g c =
@@ -44,10 +45,11 @@ invariant_of-self g c =
       was.ended,
       was.clears,
       was.journal,
+      c.versions_of.ensures.lv,
       c.versions_of.ensures.private,
       was.private,
     )
     (kept-admission fs c.args.ext c.len-comp.result (fs.held + c.cells_of.result) c.in-Ok.promised (vec_capacity c.prepared.new.clears) (vec_capacity c.prepared.new.journal)
-    c.in-Ok.comp c.versions_of.new.global.items _ kept known few fits number
+    c.in-Ok.comp c.versions_of.new.versions.gv _ kept known few fits number
     (ap (λ (n : ℕ). fs.held + n) c.cells_of.ensures.cells)
-    was.promised (omega (arith, steps_room, as_long)) (omega (arith, clears_room, as_many)) was.comp was.none_waits c.versions_of.ensures.global refl)
+    was.promised (omega (arith, steps_room, as_long)) (omega (arith, clears_room, as_many)) was.comp was.none_waits c.versions_of.ensures.gv refl)
