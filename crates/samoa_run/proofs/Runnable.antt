@@ -1,8 +1,8 @@
 -- What is known of a script that can run by now.
-use Rattle.std.proofs.Common.{◌≡◌, ℕ, ◌*◌, ◌≤◌, ◌&&◌, Bool, true, List, [], ◌∷◌, length, refl, ap, ◌∙◌, arith, nat_le, eqb-true}
+use Rattle.std.proofs.Common.{◌≡◌, ℕ, ◌*◌, ◌≤◌, Bool, true, List, [], ◌∷◌, refl, ap, arith, eqb-true}
 use Rattle.std.specs.List.{All, count_by, list_all}
 use Rattle.std.proofs.lemmas.Bool.{and_parts, le-leb}
-use Rattle.std.proofs.lemmas.List.Elements.{All-nil, All-cons, All-head, All-tail}
+use Rattle.std.proofs.lemmas.List.Elements.{All-head, All-tail}
 use Rattle.std.proofs.lemmas.List.Sums.{count_by-le-length}
 use Rattle.samoa_model.specs.declared.setup.Kind.{Kind}
 use Rattle.samoa_model.specs.declared.setup.Kind.TheVariants.{Prog, Link, Fd, Rbcast, Cons, Abcast, Seqcast, Repl, Views}

@@ -1,5 +1,5 @@
 //! Two computations that are admitted together.
-ghost use Rattle.std.specs.Prelude.{◌≡◌, ◌<◌, ◌≤◌, ◌∷◌, [], All, IfOk, length, true, OnOk};
+ghost use Rattle.std.specs.Prelude.{◌≡◌, ◌<◌, ◌≤◌, [], IfOk, length, OnOk};
 ghost use Rattle.samoa_model.specs.Cells.{need};
 ghost use Rattle.samoa_model.specs.Range.{IsBuilt, IsInRange};
 ghost use Rattle.samoa_model.specs.declared.script.Decl.{Decl};

@@ -1,4 +1,4 @@
-use Rattle.std.proofs.Common.{◌≡◌, ◌⊎◌, ◌∙◌, Result, Ok, Err, refl, sym, subst}
+use Rattle.std.proofs.Common.{◌≡◌, ◌⊎◌, Result, Ok, Err, refl, sym, subst}
 use Rattle.samoa_model.specs.declared.script.Script.{Script}
 use Rattle.samoa_script.specs.declared.fault.ScriptFault.{ScriptFault}
 use Rattle.samoa_run.specs.Readings.{IsFaultOf}
