@@ -1,5 +1,5 @@
 -- The report, computation by computation.
-use Rattle.std.proofs.Common.{◌≡◌, ℕ, ◌+◌, Bool, List, [], ◌∷◌, ◌++◌, refl, sym, ap, ◌∙◌, append_assoc, append-nil}
+use Rattle.std.proofs.Common.{◌≡◌, ℕ, Bool, List, [], ◌∷◌, ◌++◌, refl, sym, ap, ◌∙◌, append_assoc, append-nil}
 use Rattle.samoa_model.specs.declared.record.Ext.{Ext}
 use Rattle.samoa_model.specs.declared.script.Script.{Script}
 use Rattle.samoa_serial.specs.SerialRun.{serial}

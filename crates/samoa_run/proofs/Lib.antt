@@ -1,7 +1,6 @@
 pub mod Batches
 pub mod Boxes
 pub mod Closing
-pub mod Declares
 pub mod EntryBound
 pub mod EntrySteps
 pub mod Histories

@@ -1,13 +1,12 @@
 -- An order is carried out, told by what the input reads as.
 use Rattle.std.proofs.Common.{◌≡◌, ◌⊎◌, ℕ, ◌≤◌, Bool, true, false, cond, List, length, Result, Ok, Err, Some, inl, inr, refl, subst, arith}
-use Rattle.std.specs.declared.option.Option.{Option}
 use Rattle.std.specs.Io.KnownBytes.{IsAtEnd}
 use Rattle.samoa_model.specs.declared.script.Script.{Script}
 use Rattle.samoa_ends.specs.Causes.{Rose}
 use Rattle.samoa_script.specs.declared.fault.ScriptFault.{ScriptFault}
 use Rattle.samoa_run.specs.Readings.{IsReading}
 use Rattle.samoa_run.specs.declared.words.Order.{Order}
-use Rattle.samoa_run.specs.Due.{can_do, due_status, due_text, fault_line, turned_away_line, output}
+use Rattle.samoa_run.specs.Due.{can_do, due_status, due_text, turned_away_line, output}
 use Rattle.samoa_run.specs.Serving.{Answers, Ends, IsRefused, faulty, turned_away, NoFault, Obeys}
 
 -- what was read, and what was answered for it

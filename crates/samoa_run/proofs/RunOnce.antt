@@ -1,5 +1,5 @@
 -- A part that was admitted together and has ended.
-use Rattle.std.proofs.Common.{arith, ◌≡◌, ℕ, ◌+◌, ◌<◌, ◌≤◌, Bool, true, sym, ap, subst, ◌∙◌, List, [], ◌++◌, length, take, drop, if◌then◌else◌, nat_lt}
+use Rattle.std.proofs.Common.{arith, ◌≡◌, ℕ, ◌<◌, ◌≤◌, Bool, true, sym, ap, subst, ◌∙◌, List, [], ◌++◌, length, take, drop, if◌then◌else◌, nat_lt}
 use Rattle.std.proofs.Math.Seq.{take-append_seam, drop-append_seam}
 use Rattle.std.proofs.lemmas.Bool.Decides.{nat_tests}
 use Rattle.samoa_model.specs.declared.record.Ext.{Ext}

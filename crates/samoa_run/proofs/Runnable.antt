@@ -1,47 +1,33 @@
 -- What is known of a script that can run by now.
-use Rattle.std.proofs.Common.{◌≡◌, ℕ, ◌*◌, ◌≤◌, ◌&&◌, Bool, true, List, [], ◌∷◌, length, refl, ap, ◌∙◌, arith, nat_le, eqb-true}
+use Rattle.std.proofs.Common.{◌≡◌, ℕ, ◌*◌, ◌≤◌, Bool, true, List, [], ◌∷◌, refl, ap, arith, eqb-true}
 use Rattle.std.specs.List.{All, count_by, list_all}
 use Rattle.std.proofs.lemmas.Bool.{and_parts, le-leb}
-use Rattle.std.proofs.lemmas.List.Elements.{All-nil, All-cons, All-head, All-tail}
+use Rattle.std.proofs.lemmas.List.Elements.{All-head, All-tail}
 use Rattle.std.proofs.lemmas.List.Sums.{count_by-le-length}
 use Rattle.samoa_model.specs.declared.setup.Kind.{Kind}
 use Rattle.samoa_model.specs.declared.setup.Kind.TheVariants.{Prog, Link, Fd, Rbcast, Cons, Abcast, Seqcast, Repl, Views}
 use Rattle.samoa_model.specs.contracts.setup.KindPartialEq.TheImpl.{ghosts}
 use Rattle.samoa_model.specs.declared.script.MicroDef.{MicroDef}
-use Rattle.samoa_model.specs.declared.script.Decl.{Decl}
 use Rattle.samoa_model.specs.declared.script.DeclDef.{DeclDef}
 use Rattle.samoa_model.specs.declared.script.Script.{Script}
-use Rattle.samoa_model.specs.Range.{HasBudget, IsSet, IsBuilt, IsInRange}
+use Rattle.samoa_model.specs.Range.{HasBudget, IsBuilt, IsInRange}
 use Rattle.samoa_micro.specs.Covers.{Covers, count_of, wanted}
 use Rattle.samoa_micro.proofs.CoverLaws.{Covers-from_all, has_enough}
 use Rattle.samoa_model.specs.Cells.{greatest_budget, need}
 use Rattle.samoa_run.specs.declared.words.Order.TheVariants.{Run}
 use Rattle.samoa_run.specs.Due.{can_do}
-use Rattle.samoa_run.specs.Built.{is_set, is_none, is_scripted, is_built_micro, is_built}
-
-set_is : (d : Decl) → is_set d ≡ true → IsSet d
-set_is (Decl.Set micros) h = tt
-set_is (Decl.Bound bounds) h = absurd (cc)
-set_is (Decl.Route vertices roots edges) h = absurd (cc)
-
-sets_are : (ds : List DeclDef) → list_all (λ (d : DeclDef). is_set d.decl) ds ≡ true → All (λ (d : DeclDef). IsSet d.decl) ds
-sets_are [] h = All-nil (λ (d : DeclDef). IsSet d.decl)
-sets_are (d ∷ ds) h =
-    let parts = and_parts _ _ h in
-    let P : DeclDef → Type 0 = λ d. IsSet d.decl in All-cons P d ds (set_is d.decl parts.0) (sets_are ds parts.1)
+use Rattle.samoa_run.specs.Built.{is_none, is_scripted, is_built_micro, is_built}
 
 none_is : {X : Type 0} (xs : List X) → is_none xs ≡ true → xs ≡ []
 none_is [] h = refl
 none_is (x ∷ xs) h = absurd (cc)
 
--- its declarations are sets, and no binding changes
+-- no binding changes
 pub built-is : (script : Script) → is_built script ≡ true → IsBuilt script
 unfolding is_built
 built-is script h =
-    let micros = (and_parts _ _ h).1 in
-    let decls = (and_parts _ _ micros).1 in
-    let changes = (and_parts _ _ decls).1 in
-    record { sets = sets_are script.decls (and_parts _ _ decls).0; unchanging = none_is script.changes (and_parts _ _ changes).0 }
+    let changes = (and_parts _ _ (and_parts _ _ h).1).1 in
+    record { unchanging = none_is script.changes (and_parts _ _ changes).0 }
 
 scripted_is : (kind : Kind) → is_scripted kind ≡ true → kind ≡ Prog
 scripted_is Prog h = refl

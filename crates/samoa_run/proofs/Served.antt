@@ -1,16 +1,15 @@
 -- How a call of the top ends.
-use Rattle.std.proofs.Common.{◌≡◌, ◌⊎◌, ℕ, true, false, ◌≤◌, ◌<◌, List, [], ◌++◌, length, None, Some, Result, Ok, Err, refl, sym, ap, ◌∙◌, subst, inl, inr, arith, append-nil, length-append, rules}
+use Rattle.std.proofs.Common.{◌≡◌, ◌⊎◌, ℕ, true, false, ◌≤◌, ◌<◌, List, ◌++◌, length, None, Some, Result, Ok, Err, refl, sym, ap, ◌∙◌, subst, inl, inr, arith, append-nil, length-append, rules}
 use Rattle.std.specs.declared.option.Option.{Option}
 use Rattle.std.specs.Io.KnownBytes.{Appends, Consumes, IsAtEnd}
 use Rattle.samoa_model.specs.declared.script.Script.{Script}
 use Rattle.samoa_ends.specs.Pieces.{AppendsPrefix}
-use Rattle.samoa_grammar.specs.Held.{Holds, IsTooLong, IsNoJson, WalkFails}
+use Rattle.samoa_grammar.specs.Held.{IsTooLong}
 use Rattle.samoa_script.specs.declared.fault.ScriptFault.{ScriptFault}
 use Rattle.samoa_script.specs.declared.fault.ScriptFault.TheVariants.{TooLong, NotJson, Missing, WrongForm, Unknown, Twice, Over, Memory}
 use Rattle.samoa_script.proofs.Apart.{one_script, answers_apart}
 use Rattle.samoa_run.specs.Readings.{IsFaultOf, IsReading}
-use Rattle.samoa_run.specs.declared.words.Order.{Order}
-use Rattle.samoa_run.specs.Due.{due_status, due_text, is_memory}
+use Rattle.samoa_run.specs.Due.{is_memory}
 use Rattle.samoa_run.specs.Serving.{Answers}
 
 -- what was read is the input, where that is no longer than the limit

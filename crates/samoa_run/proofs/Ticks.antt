@@ -1,5 +1,5 @@
 -- Items tick by tick.
-use Rattle.std.proofs.Common.{◌≡◌, ℕ, ◌+◌, ◌<◌, ◌≤◌, ◌==◌, Bool, true, false, not, ◌&&◌, List, [], ◌∷◌, ◌++◌, length, map, filter, refl, sym, ap, ◌∙◌, arith}
+use Rattle.std.proofs.Common.{◌≡◌, ℕ, ◌==◌, Bool, not, ◌&&◌, List, [], filter, sym, ap, ◌∙◌, arith}
 use Rattle.std.proofs.lemmas.Bool.Decides.{nat_tests}
 use Rattle.std.proofs.lemmas.Fn.{always_returns_same}
 use Rattle.std.proofs.lemmas.List.Sorted.{IsNonDecreasingBy-from_sort}
@@ -11,7 +11,7 @@ use denote.Ref.{Bor}
 use denote.Param.Members.{Mut}
 use Rattle.samoa_model.specs.declared.record.Cause.TheVariants.{Event}
 use Rattle.samoa_model.specs.declared.script.DoDef.{DoDef}
-use Rattle.samoa_run.specs.Schedule.{IsByTick, of_tick}
+use Rattle.samoa_run.specs.Schedule.{IsByTick}
 
 nat_cmp-is_lt : (a b : ℕ) → is_lt (nat_cmp a b) ≡ nat_lt a b
 nat_cmp-is_lt a b = grind (arith, nat_tests)

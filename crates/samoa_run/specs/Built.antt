@@ -1,5 +1,5 @@
 -- Scripts of the parts that can run by now.
-use Rattle.std.specs.Prelude.{ℕ, ◌==◌, Bool, true, false, ◌&&◌, List, [], ◌∷◌}
+use Rattle.std.specs.Prelude.{◌==◌, Bool, true, false, ◌&&◌, List, [], ◌∷◌}
 use Rattle.std.specs.List.{list_all}
 use Rattle.samoa_model.specs.declared.setup.Kind.{Kind}
 use Rattle.samoa_model.specs.declared.setup.Kind.TheVariants.{Prog}

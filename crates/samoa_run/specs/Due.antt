@@ -1,5 +1,5 @@
 -- What is due for an order: what is to be written, and with which status.
-use Rattle.std.specs.Prelude.{◌≡◌, ℕ, ◌++◌, Bool, true, false, ◌&&◌, List, nat_le, codes, decimal, Result, Ok, Err, if◌then◌else◌}
+use Rattle.std.specs.Prelude.{ℕ, ◌++◌, Bool, true, false, ◌&&◌, List, nat_le, codes, decimal, Result, Ok, Err, if◌then◌else◌}
 use Rattle.samoa_model.specs.declared.script.Script.{Script}
 use Rattle.samoa_model.specs.Cells.{need}
 use Rattle.samoa_serial.specs.Report.{report}

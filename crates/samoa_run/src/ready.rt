@@ -5,7 +5,8 @@ ghost use Rattle.samoa_run.specs.Built.{is_built, is_built_micro as built_micro,
 
 use samoa_model::{Cause, CodeDef, DoDef, Instr, Kind, Listed, MicroDef, Script};
 
-/// Whether a script can run by now: false exactly where it has a change, a rebinding, more than one node, an instruction `send` or `change`, a loss, a crash, or a kind other than `prog`.
+/// Whether a script can run by now: false exactly where it has a change, a rebinding, more than one
+/// node, an instruction `send` or `change`, a loss, a crash, or a kind other than `prog`.
 #[tactic(auto, unfolding(crate::specs::Built::is_built))]
 pub fn built(script: &Script) -> bool
     ensures { result ≡ is_built script.now }

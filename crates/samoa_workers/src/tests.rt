@@ -1,5 +1,5 @@
 //! Two computations that are admitted together.
-ghost use Rattle.std.specs.Prelude.{◌≡◌, ◌<◌, ◌≤◌, ◌∷◌, [], All, IfOk, length, true, OnOk};
+ghost use Rattle.std.specs.Prelude.{◌≡◌, ◌<◌, ◌≤◌, [], IfOk, length, OnOk};
 ghost use Rattle.samoa_model.specs.Cells.{need};
 ghost use Rattle.samoa_model.specs.Range.{IsBuilt, IsInRange};
 ghost use Rattle.samoa_model.specs.declared.script.Decl.{Decl};
@@ -7,14 +7,15 @@ ghost use Rattle.samoa_micro.specs.Covers.{Covers};
 ghost use Rattle.samoa_core.specs.Scans.{IsStill};
 ghost use Rattle.samoa_invariant.specs.State as model;
 ghost use Rattle.samoa_invariant.specs.Runs.{play, state};
+ghost use Rattle.samoa_workers.specs.Two.{IsOfTwo};
 
 use crate::batch::step;
 use crate::{Batch, drain};
 use samoa_core::Core;
 use samoa_micro::Stock;
 use samoa_model::{
-    Cause, CodeDef, Decl, DeclDef, EventDef, EventId, Ext, HandlerId, Instr, Kind, Listed, MicroDef,
-    MicroId, Name, NoMemory, NodeId, Script, Step, Words,
+    Cause, CodeDef, Decl, DeclDef, EventDef, EventId, Ext, HandlerId, Instr, Kind, Listed,
+    MicroDef, MicroId, Name, NoMemory, NodeId, Script, Step, Words,
 };
 use samoa_prog::Prog;
 use std::alloc::Global;
@@ -109,6 +110,14 @@ fn script_of(
     first: DeclDef,
     second: DeclDef,
 ) -> Result<Script, NoMemory>
+    requires first { IsOfTwo first.decl }
+    requires second { IsOfTwo second.decl }
+    requires budgets { (first.budget ≡ 32) × (second.budget ≡ 32) }
+    ensures range { IfOk result IsInRange }
+    ensures built { IfOk result IsBuilt }
+    ensures nodes { IfOk result (λ script. script.nodes ≡ 1) }
+    ensures events { IfOk result (λ script. length script.events ≡ 2) }
+    ensures need { IfOk result (λ script. need script ≡ 528) }
 {
     let ports = Vec::from_array(alloc, [EventId(1)])?;
     let a = micro(alloc, "a", ports, code)?;

@@ -1,18 +1,13 @@
 use Rattle.std.proofs.Common.{◌≡◌, ◌≤◌, true, arith}
 use Rattle.samoa_model.specs.declared.setup.Kind.TheVariants.{Prog}
 use Rattle.samoa_micro.specs.Covers.{count_of}
-use Rattle.samoa_script.proofs.Held.{held_decls}
 use Rattle.samoa_run.specs.Built.{is_built}
-use Rattle.samoa_run.proofs.Declares.{declares_known}
 use Rattle.samoa_run.proofs.Runnable.{built-is, built-covers, few_needed}
 use Rattle.drain_journal.proofs.write_run.Goals as goal
 
 pub run_script-requires-clause-built : goal.run_script-requires-clause-built
 run_script-requires-clause-built g c =
     let passes : is_built c.in-Ok.script ≡ true = cc in built-is c.in-Ok.script passes
-
-pub run_script-requires-clause-declares : goal.run_script-requires-clause-declares
-run_script-requires-clause-declares g c = declares_known _ (held_decls _ _ c.in-Ok.ensures.ok)
 
 pub run_script-requires-clause-covers : goal.run_script-requires-clause-covers
 run_script-requires-clause-covers g c =

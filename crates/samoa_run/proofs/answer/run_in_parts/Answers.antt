@@ -1,7 +1,6 @@
-use Rattle.std.proofs.Common.{◌≡◌, ◌≤◌, true, arith}
-use Rattle.samoa_model.specs.Cells.{need}
+use Rattle.std.proofs.Common.{◌≡◌, true}
 use Rattle.samoa_run.specs.Built.{is_built}
-use Rattle.samoa_run.proofs.Runnable.{built-is, built-covers, few_needed}
+use Rattle.samoa_run.proofs.Runnable.{built-is, built-covers}
 use Rattle.samoa_run.proofs.answer.run_in_parts.Goals as goal
 
 pub run_script-requires-clause-built : goal.run_script-requires-clause-built

@@ -1,5 +1,4 @@
-use Rattle.std.proofs.Common.{◌≡◌, ◌≤◌, true, arith}
-use Rattle.samoa_model.specs.Cells.{need}
+use Rattle.std.proofs.Common.{◌≡◌, true, arith}
 use Rattle.samoa_run.specs.Built.{is_built}
 use Rattle.samoa_run.proofs.Runnable.{built-is, built-covers, few_needed}
 use Rattle.samoa_run.proofs.answer.run_one_by_one.Goals as goal

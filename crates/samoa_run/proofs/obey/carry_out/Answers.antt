@@ -1,11 +1,9 @@
-use Rattle.std.proofs.Common.{◌≡◌, ◌⊎◌, ◌∙◌, Result, Ok, Err, refl, sym, subst}
+use Rattle.std.proofs.Common.{◌≡◌, ◌⊎◌, Result, Ok, Err, refl, sym, subst}
 use Rattle.samoa_model.specs.declared.script.Script.{Script}
 use Rattle.samoa_script.specs.declared.fault.ScriptFault.{ScriptFault}
 use Rattle.samoa_run.specs.Readings.{IsFaultOf}
 use Rattle.samoa_run.specs.Due.{due_status, due_text}
 use Rattle.samoa_run.specs.Serving.{Answers}
-use Rattle.samoa_script.proofs.Held.{held_decls}
-use Rattle.samoa_run.proofs.Declares.{declares_known}
 use Rattle.samoa_run.proofs.Served.{same_reading, reading_of_input, later_status, due_three, not_memory}
 use Rattle.samoa_run.proofs.obey.carry_out.Goals as goal
 
@@ -51,6 +49,3 @@ returns-clause-refused_only g c =
     let fails : IsFaultOf c.deref.result.now c.in-Err.fault = (c.in-Err.ensures.fault, not_memory c.in-Err.fault (cc)) in
     let here = reading_of_input _ _ input c.in-Ok.bytes.items c.deref.result.now (Err c.in-Err.fault) left c.in-Ok.ensures.read c.in-Ok.ensures.whole c.deref.ensures.value fails in
     (Err c.in-Err.fault, (here, refl))
-
-pub treat-requires-clause-declares : goal.treat-requires-clause-declares
-treat-requires-clause-declares g c = declares_known _ (held_decls _ _ c.in-Ok-read_script.ensures.ok)

@@ -1,8 +1,6 @@
-use Rattle.std.proofs.Common.{◌≡◌, ◌≤◌, ◌&&◌, true, nat_le, Some, subst, le-leb}
-use Rattle.samoa_model.specs.Cells.{need}
+use Rattle.std.proofs.Common.{◌≡◌, true, Some, subst}
 use Rattle.samoa_run.specs.declared.words.Order.{Order}
 use Rattle.samoa_run.specs.declared.words.Order.TheVariants.{Run}
-use Rattle.samoa_run.specs.Built.{is_built}
 use Rattle.samoa_run.specs.Serving.{Answers}
 use Rattle.samoa_run.specs.Due.{can_do, output}
 use Rattle.samoa_run.proofs.Runnable.{can_run_in}

@@ -1,9 +1,8 @@
-use Rattle.std.proofs.Common.{◌≡◌, ◌∙◌, ◌&&◌, true, ap, Some, subst}
-use Rattle.std.specs.declared.option.Option.{Option}
+use Rattle.std.proofs.Common.{◌≡◌, ◌&&◌, true, ap, Some, subst}
 use Rattle.samoa_run.specs.declared.words.Order.{Order}
 use Rattle.samoa_run.specs.declared.words.Order.TheVariants.{Serial}
 use Rattle.samoa_run.specs.Serving.{Answers}
-use Rattle.samoa_run.specs.Due.{output, can_do}
+use Rattle.samoa_run.specs.Due.{output}
 use Rattle.samoa_run.proofs.top.serve_serial.Goals as goal
 
 pub returns-in-Some-Serial-clause-report : goal.returns-in-Some-Serial-clause-report
