@@ -55,7 +55,7 @@ unfolding is_built
 built-covers script kinds range h stock =
     let parts = and_parts _ _ h in
     let one : script.nodes ≡ 1 = eqb-true script.nodes 1 parts.0 in
-    let micros = (and_parts _ _ parts.1).0 in
+    let micros : list_all is_built_micro script.micros ≡ true = (and_parts _ _ parts.1).0 in
     let few = count_by-le-length (λ (micro : MicroDef). ghosts.eq micro.kind Prog) script.micros in
     let all : wanted script Prog ≡ 1 * count_by (λ (micro : MicroDef). ghosts.eq micro.kind Prog) script.micros
     = ap (λ (n : ℕ). n * count_by (λ (micro : MicroDef). ghosts.eq micro.kind Prog) script.micros) one in
