@@ -79,8 +79,8 @@ impl Comp {
         self.decl
     }
 
-    /// Attempts the root call, of an event with these handlers, of which there are at most four, in a new computation.
-    /// It takes no memory.
+    /// Attempts the root call, of an event with these handlers, of which there are at most four, at microprotocols 0 to
+    /// 23, in a new computation. It takes no memory.
     pub fn start(&mut self, decl: &Decl, handlers: &[HandlerId], event: EventId, arg: Words)
         requires few { length handlers.now ≤ 4 }
         requires counted { AreCounted handlers.now }
@@ -100,8 +100,9 @@ impl Comp {
         self.calls.next()
     }
 
-    /// The next handler step gave this outcome, which takes effect by the table of the node in that epoch. Answers the
-    /// microprotocol of the handler call that was completed, None exactly where none was. It takes no memory.
+    /// The next handler step gave this outcome, which takes effect by the table of the node in that epoch, the same as for
+    /// every outcome before; its handlers are at microprotocols 0 to 23. Answers the microprotocol of the handler call that
+    /// was completed, None exactly where none was. It takes no memory.
     pub fn take_outcome(
         &mut self,
         decl: &Decl,

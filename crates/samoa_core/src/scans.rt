@@ -138,8 +138,8 @@ impl<B: Micro> Core<B> {
         requires micro { micro < length self.now.script.micros }
         ensures { result ≡ may_release (play self.now) (state self.now) (comp - 1) micro }
     {
-        let weight = weight(self.declaration(comp), micro);
-        0 < weight && (self.has_turn(comp, micro) && self.is_quiet(comp, micro))
+        // What isn't declared has weight 0, and no turn.
+        self.has_turn(comp, micro) && self.is_quiet(comp, micro)
     }
 
     /// Makes a release that is due.
