@@ -1,22 +1,10 @@
 -- What a pick shows.
-use Rattle.std.proofs.Common.{arith, ◌≡◌, ℕ, ◌+◌, ◌-◌, ◌<◌, ◌≤◌, sym, subst, ◌∙◌, Option, Some, None}
-use Rattle.std.specs.Option.{IfSome}
+use Rattle.std.proofs.Common.{arith, ◌≡◌, ℕ, ◌+◌, ◌-◌, ◌<◌, subst, Some, None}
 use Rattle.samoa_model.specs.declared.record.Step.{Step}
 use Rattle.samoa_invariant.specs.State as model
 use Rattle.samoa_invariant.specs.Runs.{IsDue, IsRun, Trace, play, state}
 use Rattle.samoa_invariant.proofs.Picks.{pick-none, picked}
-use Rattle.samoa_invariant.proofs.Traces.{count-few, invariant}
-use Rattle.samoa_core.proofs.Options.{if_some}
-
-pub pick_few : (t : Trace) (o : Option ℕ) → IsRun t → o ≡ model.pick (play t) (state t) → IfSome o (λ place. place < 100000)
-pick_few t o run e = if_some o (λ place. place < 100000) (λ place is. below place is)
-  where
-    below : (place : ℕ) → o ≡ Some place → place < 100000
-    below place is =
-        let p : model.IsPicked (play t) (state t) place = picked (play t) (state t) place (invariant t run) (sym e ∙ is) in
-        let lt : place < (state t).count = p.here.turn.admitted in
-        let few : (state t).count ≤ 100000 = count-few t run in
-        omega (arith, lt, few)
+use Rattle.samoa_invariant.proofs.Traces.{invariant}
 
 place_is : (k : ℕ) → k ≡ k + 1 - 1
 place_is k = omega arith

@@ -102,6 +102,14 @@ may-end t k lt within e =
           (past_at P core k n p b.1 (within p declared)) (lt-ltb zero (weight (P.decl k) p) declared));
     }
 
+-- one that isn't past decides
+pub one-not_past : (P : Play) (core : model.Core) (k n p : ℕ) → p < n → is_past P core k p ≡ false → all_past P core k n ≡ false
+one-not_past P core k n p lt short = go (all_past P core k n) refl
+  where
+    go : (b : Bool) → all_past P core k n ≡ b → b ≡ false
+    go true e = let past : is_past P core k p ≡ true = past_at P core k n p e lt in cc
+    go false e = refl
+
 past-true : (P : Play) (core : model.Core) (k p : ℕ) → ((q : ℕ) → 0 < weight (P.decl k) q → core.private k (P.node k) q ≤ core.local (P.node k) q) → is_past P core k p ≡ true
 past-true P core k p past = go (nat_lt zero (weight (P.decl k) p)) refl
   where
@@ -127,7 +135,7 @@ ended-released P core k p i ended can =
     let below : core.local (P.node k) p < core.private k (P.node k) p = can.turn.below in
     omega (arith, private, past, below)
 
-skip_release : (t : Trace) (k p : ℕ) → Invariant (play t) (state t) → k < (state t).count → (state t).ended k ≡ true
+pub skip_release : (t : Trace) (k p : ℕ) → Invariant (play t) (state t) → k < (state t).count → (state t).ended k ≡ true
     → may_release (play t) (state t) k p ≡ false
 skip_release t k p i lt ended = go (may_release (play t) (state t) k p) refl
   where
@@ -135,7 +143,7 @@ skip_release t k p i lt ended = go (may_release (play t) (state t) k p) refl
     go true e = absurd (ended-released (play t) (state t) k p i ended (may-can (play t) (state t) k p lt e))
     go false e = refl
 
-skip_of : (t : Trace) (comp n : ℕ) → ((p : ℕ) → may_release (play t) (state t) (comp - 1) p ≡ false) → releases_of t comp n ≡ t.journal
+pub skip_of : (t : Trace) (comp n : ℕ) → ((p : ℕ) → may_release (play t) (state t) (comp - 1) p ≡ false) → releases_of t comp n ≡ t.journal
 skip_of t comp zero none = refl
 skip_of t comp (suc n) none =
     ap (λ (xs : List Step). try_release (with_journal t xs) comp n) (skip_of t comp n none)
@@ -179,6 +187,14 @@ ended_all core (suc n) k e lt = go (ended_all core n k (and_parts (ended_to core
         below : k ≢ n → k < n
         below other = omega (arith, lt, other)
 
+-- one that hasn't ended decides
+pub one-not_ended : (core : model.Core) (n k : ℕ) → k < n → core.ended k ≡ false → ended_to core n ≡ false
+one-not_ended core n k lt running = go (ended_to core n) refl
+  where
+    go : (b : Bool) → ended_to core n ≡ b → b ≡ false
+    go true e = let ended : core.ended k ≡ true = ended_all core n k e lt in cc
+    go false e = refl
+
 not_ready : (P : Play) (core : model.Core) (k : ℕ) → Invariant P core → k < core.count → core.ended k ≡ true → model.is_ready P core k ≡ false
 not_ready P core k i lt ended = go (model.is_ready P core k) refl
   where
@@ -191,6 +207,24 @@ skip_ready P core zero i le ended = refl
 skip_ready P core (suc n) i le ended =
     ap (λ (o : Option ℕ). model.or_last o (model.is_ready P core n) n) (skip_ready P core n i (omega (arith, le)) (λ k lt. ended k (omega (arith, lt))))
     ∙ ap (λ (b : Bool). if b then Some n else None) (not_ready P core n i (omega (arith, le)) (ended n (omega arith)))
+
+-- those after the first that is ready change nothing
+pub ready-first : (P : Play) (core : model.Core) (n k : ℕ) → model.first_ready P core k ≡ None → model.is_ready P core k ≡ true → k < n → model.first_ready P core n ≡ Some k
+ready-first P core zero k none ready lt = absurd (omega (arith, lt))
+ready-first P core (suc n) k none ready lt = go (cases_eq k n) (ready-first P core n k none ready)
+  where
+    go : (k ≡ n) ⊎ (k ≢ n) → (k < n → model.first_ready P core n ≡ Some k) → model.first_ready P core (suc n) ≡ Some k
+    go (inl same) before =
+        subst (λ (j : ℕ). model.first_ready P core (suc j) ≡ Some k) same
+        (ap (λ (o : Option ℕ). model.or_last o (model.is_ready P core k) k) none ∙ ap (λ (b : Bool). if b then Some k else None) ready)
+    go (inr ne) before = ap (λ (o : Option ℕ). model.or_last o (model.is_ready P core n) n) (before (below ne))
+      where
+        below : k ≢ n → k < n
+        below other = omega (arith, lt, other)
+
+-- a number from 1, and its place
+pub back : (k : ℕ) → k + 1 - 1 ≡ k
+back k = omega arith
 
 suc_is : (n : ℕ) → n + 1 ≡ suc n
 suc_is n = omega arith

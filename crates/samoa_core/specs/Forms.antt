@@ -16,6 +16,12 @@ IsTestable (Decl.Set micros) = Unit {0}
 IsTestable (Decl.Bound bounds) = Unit {0}
 IsTestable (Decl.Route vertices roots edges) = IsGraph vertices edges
 
+-- whether a microprotocol is released only once nothing is left of the computation's calls
+abbrev pub waits_for_rest : Decl → Bool
+waits_for_rest (Decl.Set micros) = true
+waits_for_rest (Decl.Bound bounds) = true
+waits_for_rest (Decl.Route vertices roots edges) = false
+
 -- these are the handlers of a computation's active calls and of its waiting ones, of which there are none where none is active
 pub record IsStanding (table : Table) (comp : Computation) (active waiting : List HandlerId) : Type 0 where
   pub active_handlers : active ≡ map (λ a. a.call.handler) comp.active

@@ -1,7 +1,6 @@
 //! Tables of numbers with one row after another, and the journal's next step.
 ghost use Rattle.std.specs.Prelude.{◌≡◌, ◌<◌, ◌≤◌, ◌+◌, ◌-◌, ◌*◌, length, Some, slice_get, [], ◌∷◌, ◌++◌, vec_capacity};
 ghost use Rattle.samoa_model.specs.declared.record.Step.{Step};
-ghost use Rattle.samoa_invariant.specs.State.{or_last};
 
 use samoa_model::Step;
 
@@ -30,14 +29,4 @@ pub(crate) fn note(journal: &mut Vec<Step>, promised: &mut u64, step: Step)
 {
     journal.push_reserved(step);
     *promised -= 1;
-}
-
-/// The first that is ready.
-pub(crate) fn or_last(found: Option<u32>, ready: bool, comp: u32) -> Option<u32>
-    ensures { result ≡ or_last found ready comp }
-{
-    match found {
-        Some(first) => Some(first),
-        None => { if ready { Some(comp) } else { None } }
-    }
 }

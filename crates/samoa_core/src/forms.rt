@@ -6,7 +6,7 @@ ghost use Rattle.samoa_model.specs.Scripts.{Table};
 ghost use Rattle.samoa_serial.specs.Calls.{Computation};
 ghost use Rattle.samoa_invariant.specs.State.{named};
 ghost use Rattle.samoa_invariant.specs.Settle.{is_quiet};
-ghost use Rattle.samoa_core.specs.Forms.{IsStanding, IsTestable, raises};
+ghost use Rattle.samoa_core.specs.Forms.{IsStanding, IsTestable, raises, waits_for_rest};
 
 use samoa_declare::{Standing, weight as weight_of};
 use samoa_model::{Decl, MicroId};
@@ -45,6 +45,16 @@ pub(crate) fn may_release<T: Standing>(decl: &Decl, standing: &T, micro: u32) ->
         Decl::Set { .. } => samoa_vca_basic::may_release(decl, standing, micro),
         Decl::Bound { .. } => samoa_vca_bound::may_release(decl, standing, micro),
         Decl::Route { .. } => samoa_vca_route::may_release(decl, standing, micro),
+    }
+}
+
+/// Whether a computation is done with no microprotocol as long as anything is left of its calls.
+pub(crate) fn waits_for_rest(decl: &Decl) -> bool
+    ensures { result ≡ waits_for_rest decl.now }
+{
+    match decl {
+        Decl::Set { .. } | Decl::Bound { .. } => true,
+        Decl::Route { .. } => false,
     }
 }
 

@@ -1,5 +1,5 @@
 //! Scans over the computations: which may begin a handler step, and which releases and ends are due.
-ghost use Rattle.std.specs.Prelude.{◌≡◌, ℕ, ◌<◌, ◌≤◌, ◌+◌, ◌-◌, ◌↔◌, length, Some, None, true, option_map, IsTrue, IfSome, IfNone};
+ghost use Rattle.std.specs.Prelude.{◌≡◌, ℕ, ◌<◌, ◌≤◌, ◌+◌, ◌-◌, ◌↔◌, length, Some, None, true, false, option_map, IsTrue, IfSome, IfNone};
 ghost use Rattle.samoa_model.specs.declared.record.Step.{Step};
 ghost use Rattle.samoa_invariant.specs.State as model;
 ghost use Rattle.samoa_invariant.specs.Runs.{IsDue, Trace, play, state, with_step};
@@ -7,11 +7,11 @@ ghost use Rattle.samoa_core.specs.Since.{cleared_comps};
 ghost use Rattle.samoa_core.specs.Places.{away, out_at, out_of, out_one};
 ghost use Rattle.samoa_core.specs.Scans.{IsLater, IsStill, all_past, ended_to, ends, finished, is_past, may_end, may_release, released, releases, releases_of, settled, try_end, try_release, with_journal};
 
-use crate::cells::{note, or_last};
-use crate::forms::weight;
+use crate::cells::note;
+use crate::forms::{waits_for_rest, weight};
 use crate::kernel::Core;
 use samoa_micro::Micro;
-use samoa_model::{NodeId, Step};
+use samoa_model::{Decl, NodeId, Step};
 
 impl<B: Micro> Core<B> {
     /// The least computation whose next handler step is due, None exactly where there is none.
@@ -34,14 +34,14 @@ impl<B: Micro> Core<B> {
         ensures few { IfSome result (λ place. place < 100000) }
     {
         let admitted = self.admitted();
-        let mut found = None;
         let mut place = self.cleared();
         while place < admitted {
-            let ready = self.is_ready(place + 1);
-            found = or_last(found, ready, place);
+            if self.is_ready(place + 1) {
+                return Some(place);
+            }
             place += 1;
         }
-        found
+        None
     }
 
     /// Whether each computation that was admitted has ended.
@@ -56,14 +56,14 @@ impl<B: Micro> Core<B> {
         ensures { result ≡ ended_to (state self.now) (length self.now.exts) }
     {
         let admitted = self.admitted();
-        let mut all = true;
         let mut place = self.cleared();
         while place < admitted {
-            let ended = self.has_ended(place + 1);
-            all = all && ended;
+            if !self.has_ended(place + 1) {
+                return false;
+            }
             place += 1;
         }
-        all
+        true
     }
 
     /// Makes the releases that are due, by rising computation, then rising microprotocol, until none is.
@@ -98,12 +98,26 @@ impl<B: Micro> Core<B> {
         ensures cleared { cleared_comps self.new ≡ cleared_comps self.old }
         ensures not_more { model.left (play self.new) (state self.new) ≤ model.left (play self.old) (state self.old) }
     {
+        if !self.may_have_releases(comp) {
+            return;
+        }
         let micros = self.micros();
         let mut micro = 0;
         while micro < micros {
             self.try_release(comp, micro);
             micro += 1;
         }
+    }
+
+    /// Whether a release of a computation may be due, by what is tested at once: it hasn't ended, and nothing is left of
+    /// it if its declaration waits for the rest.
+    fn may_have_releases(&self, comp: u32) -> bool
+        requires kept { cleared_comps self.now < comp }
+        requires admitted { comp ≤ length self.now.exts }
+        ensures { result ≡ false → (p : ℕ) → may_release (play self.now) (state self.now) (comp - 1) p ≡ false }
+    {
+        let _admitted = self.admitted();
+        !self.has_ended(comp) && (self.is_idle(comp) || !waits_for_rest(self.declaration(comp)))
     }
 
     fn try_release(&mut self, comp: u32, micro: u32)
@@ -222,23 +236,25 @@ impl<B: Micro> Core<B> {
         ensures { result ≡ all_past (play self.now) (state self.now) (comp - 1) (length self.now.script.micros) }
     {
         let micros = self.micros();
-        let mut all = true;
+        let decl = self.declaration(comp);
         let mut micro = 0;
         while micro < micros {
-            let past = self.is_past(comp, micro);
-            all = all && past;
+            if !self.is_past(decl, comp, micro) {
+                return false;
+            }
             micro += 1;
         }
-        all
+        true
     }
 
-    fn is_past(&self, comp: u32, micro: u32) -> bool
+    fn is_past(&self, decl: &Decl, comp: u32, micro: u32) -> bool
+        requires decl { decl.now ≡ (play self.now).decl (comp - 1) }
         requires kept { cleared_comps self.now < comp }
         requires admitted { comp ≤ length self.now.exts }
         requires micro { micro < length self.now.script.micros }
         ensures { result ≡ is_past (play self.now) (state self.now) (comp - 1) micro }
     {
-        let weight = weight(self.declaration(comp), micro);
+        let weight = weight(decl, micro);
         !(0 < weight) || self.private(comp, micro) <= self.local(comp, micro)
     }
 

@@ -1,9 +1,15 @@
-use Rattle.std.proofs.Common.{arith, ◌∙◌, ◌≤◌, ap, sym}
+use Rattle.std.proofs.Common.{arith, ◌∙◌, ◌≤◌, length, List, ap, sym}
+use Rattle.samoa_model.specs.declared.record.Step.{Step}
 use Rattle.samoa_invariant.specs.State as model
 use Rattle.samoa_invariant.specs.Runs.{Trace, play, state}
 use Rattle.samoa_core.specs.Scans.{try_release, with_journal}
-use Rattle.samoa_core.proofs.Tests.{releases_of-more}
+use Rattle.samoa_core.proofs.Tests.{releases_of-more, skip_of}
 use Rattle.samoa_core.proofs.kernel.Core.release_of.Goals as goal
+
+pub returns-then-not-may_have_releases-clause-trace : goal.returns-then-not-may_have_releases-clause-trace
+returns-then-not-may_have_releases-clause-trace g c =
+    let t : Trace = c.args.self.now in
+    sym (ap (λ (xs : List Step). with_journal t xs) (skip_of t c.args.comp (length t.script.micros) (c.may_have_releases.ensures c.if-not-may_have_releases.true)))
 
 pub loop-micro-preserved : goal.loop-micro-preserved
 loop-micro-preserved g c =
