@@ -1,4 +1,4 @@
-use Rattle.std.proofs.Common.{arith, ◌≡◌, ◌∙◌, ◌<◌, ◌-◌, ℕ, length, sym, false}
+use Rattle.std.proofs.Common.{arith, ◌≡◌, ◌<◌, ◌-◌, ℕ, length, sym, false}
 use Rattle.samoa_invariant.specs.Runs.{Trace, play, state}
 use Rattle.samoa_core.specs.Scans.{is_past}
 use Rattle.samoa_core.proofs.Tests.{one-not_past}
@@ -10,5 +10,5 @@ returns-then-not-is_past g c =
     let p : ℕ = c.loop-micro.micro in
     let count : c.micros-micros.result ≡ length t.script.micros = c.micros-micros.ensures in
     let lt : p < c.micros-micros.result = c.loop-micro-test.true in
-    let short : is_past (play t) (state t) (c.args.comp - 1) p ≡ false = sym c.is_past.ensures ∙ c.if-not-is_past.true in
+    let short : is_past (play t) (state t) (c.args.comp - 1) p ≡ false = cc (c.is_past.ensures, c.if-not-is_past.true) in
     sym (one-not_past (play t) (state t) (c.args.comp - 1) (length t.script.micros) p (omega (arith, lt, count)) short)
