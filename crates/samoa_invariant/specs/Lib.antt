@@ -7,3 +7,4 @@ pub mod Settle
 pub mod Parts
 pub mod Runs
 pub mod Within
+pub mod Settling
