@@ -57,7 +57,8 @@ each_drop P zero xs all = all
 each_drop P (suc n) [] all = tt
 each_drop P (suc n) (x ∷ xs) all = each_drop P n xs all.1
 
-abbrev IsOk : (Instr → Type 0) → Option (List Instr) → Type 0
+-- what stands in the code of a handler, if there is one
+abbrev pub IsOk : (Instr → Type 0) → Option (List Instr) → Type 0
 IsOk ok None = Unit {0}
 IsOk ok (Some code) = Each ok code
 
