@@ -22,7 +22,7 @@ use Rattle.samoa_serial.specs.declared.call.Call.{Call}
 use Rattle.samoa_serial.specs.State.{State, Registers, OfLink, OfFd, OfRbcast, OfAbcast, OfSeqcast, OfRepl, OfViews, OfCons}
 use Rattle.samoa_serial.specs.Kinds.{Numbers, carry_out, with_number, number_at, run_from, script_step, kind_step, dest_of, port_at, change_at_place, first_four, resumed, waited}
 use Rattle.samoa_serial.specs.Lists.{Each}
-use Rattle.samoa_serial.specs.Known.{IsDestOf, IsKnown, IsNamed, IsPlaceOf, HasPlaces, IsQuiet, IsStill, IsSilent, IsSilentKind, IsSilentMicro, HasSilentCode}
+use Rattle.samoa_serial.specs.Known.{IsDestOf, IsKnown, IsOutcomeOf, IsPlaceOf, HasPlaces, IsQuiet, IsStill, IsSilent, IsSilentKind, IsSilentMicro, HasSilentCode}
 use Rattle.samoa_serial.proofs.EntryLaws.{IsGiven, GivesAlways, serial_entries}
 use Rattle.samoa_serial.proofs.RowLaws.{Plain, Sends, AsksFor, link-row, fd-row, rbcast-row, cons-row, abcast-row, seqcast-row, repl-row, views-row}
 
@@ -212,12 +212,12 @@ change_known : (script : Script) → IsInRange script → (node p place : ℕ) �
     → IsChangeOf script (change_at_place (setup_of script node p) place)
 change_known script range node p place below = (names_of script range p).changes place (record { 0 = 0 }) below
 
-named_plain : (script : Script) → IsInRange script → (node p : ℕ) → Plain (IsNamed script) (setup_of script node p)
+named_plain : (script : Script) → IsInRange script → (node p : ℕ) → Plain (IsOutcomeOf script) (setup_of script node p)
 named_plain script range node p =
     record { is_done = λ words. tt; calls = λ port arg frame. port_known script range node p port; delivers = λ arg frame. tt }
 
 named_own : (script : Script) → IsInRange script → HasPlaces script → (node p : ℕ) (kind : Kind)
-    → Own (IsNamed script) (IsPlaceOf (micro_at script p)) (setup_of script node p) kind
+    → Own (IsOutcomeOf script) (IsPlaceOf (micro_at script p)) (setup_of script node p) kind
 named_own script range places node p Kind.Prog = (
   record {
     plain = named_plain script range node p;
@@ -239,12 +239,12 @@ named_own script range places node p Kind.Views = tt
 
 -- a handler step of a script in range names what is of the script
 pub steps_are_named : (script : Script) → IsInRange script → HasPlaces script → (node p : ℕ) (state : State) (m : Moment)
-    → IsNamed script (kind_step (micro_at script p).kind (setup_of script node p) state m).1
+    → IsOutcomeOf script (kind_step (micro_at script p).kind (setup_of script node p) state m).1
 steps_are_named script range places node p state m =
-    kind_step-gives (IsNamed script) (IsPlaceOf (micro_at script p)) (setup_of script node p) (named_plain script range node p) (micro_at script p).kind
+    kind_step-gives (IsOutcomeOf script) (IsPlaceOf (micro_at script p)) (setup_of script node p) (named_plain script range node p) (micro_at script p).kind
     (named_own script range places node p (micro_at script p).kind) state m
 
-named_given : (script : Script) (c : Call) (o : Outcome) → IsNamed script o → IsGiven (IsKnown script) c o
+named_given : (script : Script) (c : Call) (o : Outcome) → IsOutcomeOf script o → IsGiven (IsKnown script) c o
 named_given script c (Outcome.Call event arg frame) named = tt
 named_given script c (Outcome.Later event arg frame) named = tt
 named_given script c (Outcome.Send to event arg frame) named = named
@@ -255,5 +255,5 @@ named_given script c (Outcome.Done reply) named = tt
 -- and so do its entries
 pub entries_are_known : (script : Script) → IsInRange script → HasPlaces script → GivesAlways (IsKnown script) script
 entries_are_known script range places =
-    entries_from (IsKnown script) (IsNamed script) script (named_given script) (λ call caller h arg. tt) (λ call words. tt) (λ caller event refusal. tt)
+    entries_from (IsKnown script) (IsOutcomeOf script) script (named_given script) (λ call caller h arg. tt) (λ call words. tt) (λ caller event refusal. tt)
     (λ call event arg. tt) (steps_are_named script range places)

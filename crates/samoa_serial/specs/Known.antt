@@ -19,13 +19,13 @@ IsDestOf script (Dest.One node) = node.0 < script.nodes
 IsDestOf script Dest.All = ⊤
 
 -- what is called or sent is an event of the script, a message goes to a node of it or to all, and what is asked for is a change of it
-abbrev pub IsNamed : Script → Outcome → Type 0
-IsNamed script (Outcome.Call event arg frame) = IsEventOf script event
-IsNamed script (Outcome.Later event arg frame) = IsEventOf script event
-IsNamed script (Outcome.Send to event arg frame) = IsDestOf script to × IsEventOf script event
-IsNamed script (Outcome.Deliver arg frame) = ⊤
-IsNamed script (Outcome.Change change arg frame) = IsChangeOf script change
-IsNamed script (Outcome.Done reply) = ⊤
+abbrev pub IsOutcomeOf : Script → Outcome → Type 0
+IsOutcomeOf script (Outcome.Call event arg frame) = IsEventOf script event
+IsOutcomeOf script (Outcome.Later event arg frame) = IsEventOf script event
+IsOutcomeOf script (Outcome.Send to event arg frame) = IsDestOf script to × IsEventOf script event
+IsOutcomeOf script (Outcome.Deliver arg frame) = ⊤
+IsOutcomeOf script (Outcome.Change change arg frame) = IsChangeOf script change
+IsOutcomeOf script (Outcome.Done reply) = ⊤
 
 -- the same of an entry
 abbrev pub IsKnown : Script → Entry → Type 0

@@ -13,7 +13,7 @@ ghost use Rattle.samoa_serial.specs.AbcastTable.{abcast_is_done, abcast_skip};
 ghost use Rattle.samoa_serial.specs.Alone.{after, ended, opening};
 ghost use Rattle.samoa_serial.specs.History.{history};
 ghost use Rattle.samoa_serial.specs.Kinds.{kind_step};
-ghost use Rattle.samoa_serial.specs.Known.{EachEntry, HasPlaces, HasSilentCode, IsKnown, IsNamed, IsStill};
+ghost use Rattle.samoa_serial.specs.Known.{EachEntry, HasPlaces, HasSilentCode, IsKnown, IsOutcomeOf, IsStill};
 ghost use Rattle.samoa_serial.specs.LimitedReport.{report_to};
 ghost use Rattle.samoa_serial.specs.Lists.{Each};
 ghost use Rattle.samoa_serial.specs.Origins.{IsAdmitted};
@@ -46,7 +46,7 @@ pub fn handler_steps_are_few()
 /// script, and so does each entry of its computations.
 pub fn outcomes_are_named()
     ensures named { (script : Script) → IsInRange script → HasPlaces script → (node p : ℕ) (state : State) (moment : Moment)
-        → IsNamed script (kind_step (micro_at script p).kind (setup_of script node p) state moment).1 }
+        → IsOutcomeOf script (kind_step (micro_at script p).kind (setup_of script node p) state moment).1 }
     ensures known { (script : Script) → IsInRange script → HasPlaces script → (exts : List Ext) → Each (EachEntry (IsKnown script)) (serial script exts).comps }
 {}
 
