@@ -9,7 +9,8 @@ ghost use Rattle.samoa_model.specs.Scripts.{decl_of};
 ghost use Rattle.samoa_invariant.specs.Play.{Play, turns};
 ghost use Rattle.samoa_invariant.specs.Inv.{Invariant};
 ghost use Rattle.samoa_invariant.specs.Parts.{SixParts};
-ghost use Rattle.samoa_invariant.specs.State.{AllEnded, Core, NothingOut, Reached, admit, left, named};
+ghost use Rattle.samoa_invariant.specs.Settling.{EndsAll, LeavesTheRest, ReleasesAll, Settles};
+ghost use Rattle.samoa_invariant.specs.State.{AllEnded, Core, IsSettled, NothingOut, Reached, admit, left, named};
 ghost use Rattle.samoa_invariant.specs.Runs.{ArePoints, GoesOn, IsDue, IsRun, IsServed, Trace, after_step, cleared, ext_at, opening_trace, play, state, with_clear, with_ext, with_step};
 
 /// A run begins with nothing done, and grows by steps that are enabled and by clears where all have ended. What is
@@ -47,6 +48,22 @@ pub fn runs_are_serial()
 pub fn runs_go_on()
     ensures onward { (t : Trace) → IsRun t → (state t).stopped ≡ false → AllEnded (state t) ⊎ ((step : Step) × GoesOn step × IsDue t step) }
     ensures fewer { (t : Trace) (step : Step) → IsRun t → GoesOn step → IsDue t step → left (play t) (state (with_step t step)) < left (play t) (state t) }
+{}
+
+/// Which releases are made and in which order, and which ends, is determined, and so is what settling makes of a run.
+pub fn settling_is_determined()
+    ensures releases { (t u v : Trace) → IsRun t → ReleasesAll t u → ReleasesAll t v → u ≡ v }
+    ensures ends { (t u v : Trace) → IsRun t → EndsAll t u → EndsAll t v → u ≡ v }
+    ensures settles { (t u v : Trace) → IsRun t → Settles t u → Settles t v → u ≡ v }
+{}
+
+/// A settled core has no release and no end due: the ends let no release become due. A run stays a run, nothing is moved
+/// but local versions and what has ended, and no more is left to do.
+pub fn settling_settles()
+    ensures settled { (t u : Trace) → IsRun t → Settles t u → IsSettled (play u) (state u) }
+    ensures settles { (t u : Trace) → IsRun t → Settles t u → LeavesTheRest t u }
+    ensures releases { (t u : Trace) → IsRun t → ReleasesAll t u → LeavesTheRest t u }
+    ensures ends { (t u : Trace) → IsRun t → EndsAll t u → LeavesTheRest t u }
 {}
 
 /// An admission adds to the steps still to come at most twice its handler steps, one for each microprotocol that its
