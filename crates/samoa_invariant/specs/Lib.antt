@@ -8,3 +8,4 @@ pub mod Parts
 pub mod Runs
 pub mod Within
 pub mod Settling
+pub mod Picking
