@@ -68,6 +68,12 @@ pub fn settling_settles()
     ensures ends { (t u : Trace) → IsRun t → EndsAll t u → LeavesTheRest t u }
 {}
 
+/// An Enter and an Abandon let no release and no end become due.
+pub fn handler_steps_begin_settled()
+    ensures enter { (t : Trace) (comp micro : ℕ) → IsRun t → IsSettled (play t) (state t) → IsSettled (play t) (state (with_step t (Step.Enter comp micro))) }
+    ensures abandon { (t : Trace) (comp : ℕ) → IsRun t → IsSettled (play t) (state t) → IsSettled (play t) (state (with_step t (Step.Abandon comp))) }
+{}
+
 /// A core is stopped exactly where a handler step was abandoned.
 pub fn an_abandon_stops()
     ensures { (t : Trace) → (state t).stopped ≡ has_abandon t.journal }
