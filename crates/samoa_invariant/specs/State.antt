@@ -2,18 +2,15 @@
 use Rattle.std.specs.Prelude.{◌≡◌, ◌≢◌, ℕ, zero, suc, ◌+◌, ◌-◌, ◌*◌, ◌<◌, ◌≤◌, List, [], ◌∷◌, map, Bool, true, false, nat_lt, Option, Some, None, ◌==◌, if◌then◌else◌}
 use Rattle.samoa_model.specs.declared.handler.Moment.{Moment}
 use Rattle.samoa_model.specs.declared.handler.Outcome.{Outcome}
-use Rattle.samoa_model.specs.declared.ids.HandlerId.{HandlerId}
 use Rattle.samoa_model.specs.declared.script.Decl.{Decl}
 use Rattle.samoa_serial.specs.declared.call.Call.{Call}
-use Rattle.samoa_serial.specs.declared.call.Active.{Active}
-use Rattle.samoa_serial.specs.declared.call.Waiting.{Waiting}
 use Rattle.samoa_serial.specs.State.{State}
 use Rattle.samoa_serial.specs.Calls.{Computation, start, take_outcome}
 use Rattle.samoa_serial.specs.Alone.{next_step}
-use Rattle.samoa_model.specs.Scripts.{resolve, Table}
+use Rattle.samoa_model.specs.Scripts.{Table}
 use Rattle.samoa_serial.specs.World.{attempts_of}
 use Rattle.samoa_model.specs.Allowed.{weight}
-use Rattle.samoa_model.specs.Paths.{IsSafe}
+use Rattle.samoa_model.specs.Paths.{MayRelease, handlers_by}
 use Rattle.samoa_invariant.specs.Slots.{At, put_at}
 use Rattle.samoa_invariant.specs.Play.{Play, turns, weight_at, is_bound, ends_call, IsIdle}
 
@@ -39,31 +36,9 @@ pub record Core : Type 0 where
 abbrev pub put : {A : Type 0} → (ℕ → A) → ℕ → A → ℕ → A
 put f k new j = if j == k then new else f j
 
--- no route leads from these handlers to p
-abbrev pub AllSafe : List HandlerId → List (ℕ × ℕ) → ℕ → List HandlerId → Type 0
-AllSafe vertices edges p [] = Unit {0}
-AllSafe vertices edges p (h ∷ hs) = IsSafe vertices edges p h × AllSafe vertices edges p hs
-
--- the same of the handlers of the active calls
-abbrev pub ActiveSafe : List HandlerId → List (ℕ × ℕ) → ℕ → List Active → Type 0
-ActiveSafe vertices edges p [] = Unit {0}
-ActiveSafe vertices edges p (a ∷ rest) = IsSafe vertices edges p a.call.handler × ActiveSafe vertices edges p rest
-
--- the same of the handlers of the waiting calls' events
-abbrev pub WaitingSafe : List HandlerId → List (ℕ × ℕ) → Table → ℕ → List Waiting → Type 0
-WaitingSafe vertices edges table p [] = Unit {0}
-WaitingSafe vertices edges table p (w ∷ ws) = AllSafe vertices edges p (resolve table w.event) × WaitingSafe vertices edges table p ws
-
--- no route leads from an active call or from a handler of a waiting call to p
-pub record RouteQuiet (vertices : List HandlerId) (edges : List (ℕ × ℕ)) (table : Table) (comp : Computation) (p : ℕ) : Type 0 where
-  pub active : ActiveSafe vertices edges p comp.active
-  pub waiting : WaitingSafe vertices edges table p comp.waiting
-
--- the computation may be done with p
+-- the computation may be done with p, by the handlers of its active calls and those of its waiting calls in its own table
 abbrev pub Quiet : Decl → Table → Computation → ℕ → Type 0
-Quiet (Decl.Set micros) table comp p = IsIdle comp
-Quiet (Decl.Bound bounds) table comp p = IsIdle comp
-Quiet (Decl.Route vertices roots edges) table comp p = RouteQuiet vertices edges table comp p
+Quiet decl table comp p = MayRelease decl (map (λ a. a.call.handler) comp.active) (handlers_by table (map (λ w. w.event) comp.waiting)) p
 
 -- the steps of the core, and the clear
 pub data Step : Type 0 where
