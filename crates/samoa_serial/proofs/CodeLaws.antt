@@ -16,13 +16,13 @@ use Rattle.samoa_model.specs.declared.setup.Setup.{Setup}
 use Rattle.samoa_model.specs.declared.script.CodeDef.{CodeDef}
 use Rattle.samoa_model.specs.declared.script.MicroDef.{MicroDef}
 use Rattle.samoa_model.specs.declared.script.Script.{Script}
-use Rattle.samoa_model.specs.Range.{IsInRange, IsMicroInRange, IsEventOf, IsChangeOf}
+use Rattle.samoa_model.specs.Range.{HasPosition, HasPositions, IsInRange, IsMicroInRange, IsEventOf, IsChangeOf}
 use Rattle.samoa_model.specs.Scripts.{micro_at, no_micro, setup_of}
 use Rattle.samoa_serial.specs.declared.call.Call.{Call}
 use Rattle.samoa_serial.specs.State.{State, Registers, OfLink, OfFd, OfRbcast, OfAbcast, OfSeqcast, OfRepl, OfViews, OfCons}
 use Rattle.samoa_serial.specs.Kinds.{Numbers, carry_out, with_number, number_at, run_from, script_step, kind_step, dest_of, port_at, change_at_place, first_four, resumed, waited}
 use Rattle.samoa_serial.specs.Lists.{Each}
-use Rattle.samoa_serial.specs.Known.{IsDestOf, IsKnown, IsOutcomeOf, IsPlaceOf, HasPlaces, IsQuiet, IsStill, IsSilent, IsSilentKind, IsSilentMicro, HasSilentCode}
+use Rattle.samoa_serial.specs.Known.{IsDestOf, IsKnown, IsOutcomeOf, IsQuiet, IsStill, IsSilent, IsSilentKind, IsSilentMicro, HasSilentCode}
 use Rattle.samoa_serial.proofs.EntryLaws.{IsGiven, GivesAlways, serial_entries}
 use Rattle.samoa_serial.proofs.RowLaws.{Plain, Sends, AsksFor, link-row, fd-row, rbcast-row, cons-row, abcast-row, seqcast-row, repl-row, views-row}
 
@@ -216,33 +216,52 @@ named_plain : (script : Script) → IsInRange script → (node p : ℕ) → Plai
 named_plain script range node p =
     record { is_done = λ words. tt; calls = λ port arg frame. port_known script range node p port; delivers = λ arg frame. tt }
 
-named_own : (script : Script) → IsInRange script → HasPlaces script → (node p : ℕ) (kind : Kind)
-    → Own (IsOutcomeOf script) (IsPlaceOf (micro_at script p)) (setup_of script node p) kind
-named_own script range places node p Kind.Prog = (
+-- what holds at every place of a list holds of each that stands in it
+each_from_all : {A : Type 0} (P Q : A → Type 0) → ((x : A) → P x → Q x) → (xs : List A) → All P xs → Each Q xs
+each_from_all P Q f [] all = tt
+each_from_all P Q f (x ∷ xs) all = (f x (All-head P x xs all), each_from_all P Q f xs (All-tail P x xs all))
+
+-- the instructions of a handler, and of all handlers of a microprotocol, name ports and changes that it has
+abbrev InPlace : MicroDef → CodeDef → Type 0
+InPlace micro code = Each (HasPosition micro) code.code
+
+abbrev AllInPlace : MicroDef → Type 0
+AllInPlace micro = Each (InPlace micro) micro.handlers
+
+in_place : (script : Script) → HasPositions script → Each AllInPlace script.micros
+in_place script positions =
+    each_from_all (λ (micro : MicroDef). All (λ (code : CodeDef). All (HasPosition micro) code.code) micro.handlers) AllInPlace
+    (λ (micro : MicroDef) codes. each_from_all (λ (code : CodeDef). All (HasPosition micro) code.code) (InPlace micro)
+    (λ (code : CodeDef) instrs. each_from_all (HasPosition micro) (HasPosition micro) (λ i h. h) code.code instrs) micro.handlers codes)
+    script.micros positions
+
+named_own : (script : Script) → IsInRange script → (node p : ℕ) (kind : Kind)
+    → Own (IsOutcomeOf script) (HasPosition (micro_at script p)) (setup_of script node p) kind
+named_own script range node p Kind.Prog = (
   record {
     plain = named_plain script range node p;
     laters = λ port arg frame. port_known script range node p port;
     sends = λ s port count to arg frame ok. (dest_known script node p to, port_known script range node p port);
     asks = λ change count arg frame ok. change_known script range node p change ok;
   },
-  (λ k. code_ok (IsPlaceOf (micro_at script p)) (micro_at script p).handlers k
-      (each_or (λ (micro : MicroDef). Each (λ (code : CodeDef). Each (IsPlaceOf micro) code.code) micro.handlers) script.micros p no_micro places tt)),
+  (λ k. code_ok (HasPosition (micro_at script p)) (micro_at script p).handlers k
+      (each_or AllInPlace script.micros p no_micro (in_place script range.positions) tt)),
 )
-named_own script range places node p Kind.Link = λ to arg frame. (dest_known script node p to, port_known script range node p 0)
-named_own script range places node p Kind.Fd = tt
-named_own script range places node p Kind.Rbcast = tt
-named_own script range places node p Kind.Cons = tt
-named_own script range places node p Kind.Abcast = tt
-named_own script range places node p Kind.Seqcast = tt
-named_own script range places node p Kind.Repl = λ place arg frame below. change_known script range node p place below
-named_own script range places node p Kind.Views = tt
+named_own script range node p Kind.Link = λ to arg frame. (dest_known script node p to, port_known script range node p 0)
+named_own script range node p Kind.Fd = tt
+named_own script range node p Kind.Rbcast = tt
+named_own script range node p Kind.Cons = tt
+named_own script range node p Kind.Abcast = tt
+named_own script range node p Kind.Seqcast = tt
+named_own script range node p Kind.Repl = λ place arg frame below. change_known script range node p place below
+named_own script range node p Kind.Views = tt
 
 -- a handler step of a script in range names what is of the script
-pub steps_are_named : (script : Script) → IsInRange script → HasPlaces script → (node p : ℕ) (state : State) (m : Moment)
+pub steps_are_named : (script : Script) → IsInRange script → (node p : ℕ) (state : State) (m : Moment)
     → IsOutcomeOf script (kind_step (micro_at script p).kind (setup_of script node p) state m).1
-steps_are_named script range places node p state m =
-    kind_step-gives (IsOutcomeOf script) (IsPlaceOf (micro_at script p)) (setup_of script node p) (named_plain script range node p) (micro_at script p).kind
-    (named_own script range places node p (micro_at script p).kind) state m
+steps_are_named script range node p state m =
+    kind_step-gives (IsOutcomeOf script) (HasPosition (micro_at script p)) (setup_of script node p) (named_plain script range node p) (micro_at script p).kind
+    (named_own script range node p (micro_at script p).kind) state m
 
 named_given : (script : Script) (c : Call) (o : Outcome) → IsOutcomeOf script o → IsGiven (IsKnown script) c o
 named_given script c (Outcome.Call event arg frame) named = tt
@@ -253,7 +272,7 @@ named_given script c (Outcome.Change change arg frame) named = named
 named_given script c (Outcome.Done reply) named = tt
 
 -- and so do its entries
-pub entries_are_known : (script : Script) → IsInRange script → HasPlaces script → GivesAlways (IsKnown script) script
-entries_are_known script range places =
+pub entries_are_known : (script : Script) → IsInRange script → GivesAlways (IsKnown script) script
+entries_are_known script range =
     entries_from (IsKnown script) (IsOutcomeOf script) script (named_given script) (λ call caller h arg. tt) (λ call words. tt) (λ caller event refusal. tt)
-    (λ call event arg. tt) (steps_are_named script range places)
+    (λ call event arg. tt) (steps_are_named script range)

@@ -33,14 +33,6 @@ IsKnown script (Entry.Sent call to event arg) = IsDestOf script to × IsEventOf 
 IsKnown script (Entry.Asked call change arg) = IsChangeOf script change
 IsKnown script _ = ⊤
 
--- an instruction asks only for changes that its microprotocol has
-abbrev pub IsPlaceOf : MicroDef → Instr → Type 0
-IsPlaceOf micro (Instr.Change change count) = change < length micro.changes
-IsPlaceOf micro _ = ⊤
-
-abbrev pub HasPlaces : Script → Type 0
-HasPlaces script = Each (λ (micro : MicroDef). Each (λ (code : CodeDef). Each (IsPlaceOf micro) code.code) micro.handlers) script.micros
-
 -- an entry by which nothing is sent or asked for
 abbrev pub IsQuiet : Entry → Type 0
 IsQuiet (Entry.Sent call to event arg) = ⊥

@@ -13,7 +13,7 @@ ghost use Rattle.samoa_serial.specs.AbcastTable.{abcast_is_done, abcast_skip};
 ghost use Rattle.samoa_serial.specs.Alone.{after, ended, opening};
 ghost use Rattle.samoa_serial.specs.History.{history};
 ghost use Rattle.samoa_serial.specs.Kinds.{kind_step};
-ghost use Rattle.samoa_serial.specs.Known.{EachEntry, HasPlaces, HasSilentCode, IsKnown, IsOutcomeOf, IsStill};
+ghost use Rattle.samoa_serial.specs.Known.{EachEntry, HasSilentCode, IsKnown, IsOutcomeOf, IsStill};
 ghost use Rattle.samoa_serial.specs.LimitedReport.{report_to};
 ghost use Rattle.samoa_serial.specs.Lists.{Each};
 ghost use Rattle.samoa_serial.specs.Origins.{IsAdmitted};
@@ -45,9 +45,9 @@ pub fn handler_steps_are_few()
 /// Each handler step of a script in range, of any kind and from any state, names events, nodes and changes of the
 /// script, and so does each entry of its computations.
 pub fn outcomes_are_named()
-    ensures named { (script : Script) → IsInRange script → HasPlaces script → (node p : ℕ) (state : State) (moment : Moment)
+    ensures named { (script : Script) → IsInRange script → (node p : ℕ) (state : State) (moment : Moment)
         → IsOutcomeOf script (kind_step (micro_at script p).kind (setup_of script node p) state moment).1 }
-    ensures known { (script : Script) → IsInRange script → HasPlaces script → (exts : List Ext) → Each (EachEntry (IsKnown script)) (serial script exts).comps }
+    ensures known { (script : Script) → IsInRange script → (exts : List Ext) → Each (EachEntry (IsKnown script)) (serial script exts).comps }
 {}
 
 /// Where an ordered broadcast looks for the next decision to hand on, it has passed all that were handed on before, as
@@ -65,7 +65,7 @@ pub fn admissions_have_their_origin()
     ensures all { (most : ℕ) (script : Script) → is_limited_to most script ≡ false → admitted_to most script ≡ history_within most script script.ticks }
     ensures origin { (most : ℕ) (script : Script) (before : List Ext) (ext : Ext) (later : List Ext) → admitted_to most script ≡ before ++ ext ∷ later
         → IsAdmitted script before ext }
-    ensures known { (most : ℕ) (script : Script) → IsInRange script → HasPlaces script → Each (IsExtOf script) (admitted_to most script) }
+    ensures known { (most : ℕ) (script : Script) → IsInRange script → Each (IsExtOf script) (admitted_to most script) }
 {}
 
 /// Where no node crashes and nothing is sent or asked for, a script admits its own items and nothing else, and its

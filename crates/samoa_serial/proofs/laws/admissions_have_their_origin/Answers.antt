@@ -8,5 +8,5 @@ returns c = record {
   few = admitted-few;
   all = admitted-all;
   origin = each_admitted;
-  known = λ most script range places. admitted_in_range most script range (entries_are_known script range places);
+  known = λ most script range. admitted_in_range most script range (entries_are_known script range);
 }

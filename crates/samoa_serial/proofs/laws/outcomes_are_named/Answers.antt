@@ -6,5 +6,5 @@ use Rattle.samoa_serial.proofs.laws.outcomes_are_named.Goals as goal
 pub returns : goal.returns
 returns c = record {
   named = steps_are_named;
-  known = λ script range places exts. serial_entries (IsKnown script) script (entries_are_known script range places) exts;
+  known = λ script range exts. serial_entries (IsKnown script) script (entries_are_known script range) exts;
 }
