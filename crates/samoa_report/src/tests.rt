@@ -7,7 +7,7 @@ use std::alloc::Global;
 use std::process::Abort;
 use std::test::Fail;
 
-/// Microprotocols `ab`, with handlers `f` and `g_2`, and `c`; events `go` and `halt`; a change `to_b`.
+/// Microprotocols `ab`, with handlers `f` and `g_2`, and `c`, a link; events `go` and `halt`; a change `to_b`.
 fn small_script(alloc: Global) -> Result<Script, NoMemory> {
     Ok(Script {
         nodes: 2,
@@ -27,8 +27,8 @@ fn micros(alloc: Global) -> Result<Vec<MicroDef>, NoMemory> {
     handlers.push(code(alloc, Name::new("f")))?;
     handlers.push(code(alloc, Name::new("g_2")))?;
     let mut micros = Vec::new(alloc);
-    micros.push(micro(alloc, Name::new("ab"), handlers))?;
-    micros.push(micro(alloc, Name::new("c"), Vec::new(alloc)))?;
+    micros.push(micro(alloc, Name::new("ab"), Kind::Prog, handlers))?;
+    micros.push(micro(alloc, Name::new("c"), Kind::Link, Vec::new(alloc)))?;
     Ok(micros)
 }
 
@@ -39,10 +39,10 @@ fn code(alloc: Global, name: Name) -> CodeDef {
     }
 }
 
-fn micro(alloc: Global, name: Name, handlers: Vec<CodeDef>) -> MicroDef {
+fn micro(alloc: Global, name: Name, kind: Kind, handlers: Vec<CodeDef>) -> MicroDef {
     MicroDef {
         name,
-        kind: Kind::Prog,
+        kind,
         nums: Words::new(),
         ports: Listed::from_vec(Vec::new(alloc)),
         changes: Listed::from_vec(Vec::new(alloc)),
@@ -75,13 +75,13 @@ fn changes(alloc: Global) -> Result<Vec<ChangeDef>, NoMemory> {
 /// A row of entries: the entry, its line, and whether that stands there without call lines too.
 type Row = (Entry, &'static [u8], bool);
 
-/// A call of a handler of the first microprotocol.
-fn accepted(index: u32, arg: Words) -> Entry {
+/// A call of a handler.
+fn accepted(micro: u32, index: u32, arg: Words) -> Entry {
     Entry::Accepted {
         call: 1,
         caller: 0,
         handler: HandlerId {
-            micro: MicroId(0),
+            micro: MicroId(micro),
             index,
         },
         arg,
@@ -105,7 +105,7 @@ fn refused(caller: u32, event: Option<EventId>, refusal: Refusal) -> Entry {
     }
 }
 
-fn call_rows() -> [Row; 7] {
+fn call_rows() -> [Row; 8] {
     let none = Words::new();
     let two = Words::cut(&[1, 18446744073709551615]);
     let finished = Entry::Finished {
@@ -123,8 +123,9 @@ fn call_rows() -> [Row; 7] {
         arg: two,
     };
     [
-        (accepted(1, none), b"C 7 1 0 ab.g_2\n", false),
-        (accepted(2, none), b"C 7 1 0 ab.\n", false),
+        (accepted(0, 1, none), b"C 7 1 0 ab.g_2\n", false),
+        (accepted(0, 2, none), b"C 7 1 0 ab.\n", false),
+        (accepted(1, 0, none), b"C 7 1 0 c.send\n", false),
         (finished, b"Y 7 10 1 18446744073709551615\n", false),
         (waiting, b"W 7 3 halt\n", false),
         (
