@@ -5,12 +5,19 @@ ghost use Rattle.samoa_model.specs.Handlers.{handlers_of_kind, names_of_handlers
 use crate::{HandlerId, Kind, MicroDef, Script};
 
 const LINK: [&str; 2] = ["send", "recv"];
+
 const FD: [&str; 2] = ["beat", "heard"];
+
 const RBCAST: [&str; 2] = ["cast", "recv"];
+
 const CONS: [&str; 5] = ["propose", "recv", "decide", "advance", "suspect"];
+
 const ABCAST: [&str; 3] = ["cast", "heard", "decided"];
+
 const SEQCAST: [&str; 2] = ["cast", "recv"];
+
 const REPL: [&str; 3] = ["cast", "deliver", "switched"];
+
 const VIEWS: [&str; 2] = ["ask", "install"];
 
 impl Kind {
