@@ -1,1 +1,2 @@
+pub mod Instrs
 pub mod Reference

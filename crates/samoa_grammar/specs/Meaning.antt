@@ -1,11 +1,10 @@
 -- What a script means whose names are all defined: each name becomes the number of what it names.
-use Rattle.std.specs.Prelude.{ℕ, Bool, ◌&&◌, ◌==◌, List, [], ◌∷◌, ◌++◌, map, bytes_eq, codes, get_or, Option, Some, None, option_map, option_and_then, unwrap_or, if◌then◌else◌}
+use Rattle.std.specs.Prelude.{ℕ, Bool, ◌&&◌, ◌==◌, List, [], ◌∷◌, ◌++◌, map, bytes_eq, get_or, Option, Some, None, option_map, option_and_then, unwrap_or, if◌then◌else◌}
 use Rattle.std.specs.List.{list_any, flat_map, position}
 use Rattle.samoa_model.specs.declared.ids.EventId.{EventId}
 use Rattle.samoa_model.specs.declared.ids.ChangeId.{ChangeId}
 use Rattle.samoa_model.specs.declared.ids.HandlerId.{HandlerId}
-use Rattle.samoa_model.specs.declared.setup.Kind.{Kind}
-use Rattle.samoa_model.specs.declared.setup.Kind.TheVariants.{Prog, Link, Fd, Rbcast, Cons, Abcast, Seqcast, Repl, Views}
+use Rattle.samoa_model.specs.declared.setup.Kind.TheVariants.{Prog}
 use Rattle.samoa_model.specs.declared.record.Cause.{Cause}
 use Rattle.samoa_model.specs.declared.record.Cause.TheVariants as causes
 use Rattle.samoa_model.specs.declared.script.CodeDef.{CodeDef}
@@ -20,6 +19,7 @@ use Rattle.samoa_model.specs.declared.script.LossDef.{LossDef}
 use Rattle.samoa_model.specs.declared.script.CrashDef.{CrashDef}
 use Rattle.samoa_model.specs.declared.script.Script.{Script}
 use Rattle.samoa_model.specs.Allowed.{same_handler, no_handler}
+use Rattle.samoa_model.specs.Handlers.{handlers_of_kind}
 use Rattle.samoa_grammar.specs.Names.{micro_part, handler_part}
 use Rattle.samoa_grammar.specs.declared.draft.MicroDraft.{MicroDraft}
 use Rattle.samoa_grammar.specs.declared.draft.BoundDraft.{BoundDraft}
@@ -42,18 +42,6 @@ abbrev pub number_in_names : List (List ℕ) → List ℕ → ℕ
 number_in_names names name = unwrap_or (position (bytes_eq name) names) 0
 
 -- ---- handlers
-
--- the handlers of the kinds that aren't scripted, in the order of their numbers
-abbrev pub handlers_of_kind : Kind → List (List ℕ)
-handlers_of_kind Prog = []
-handlers_of_kind Link = codes "send" ∷ codes "recv" ∷ []
-handlers_of_kind Fd = codes "beat" ∷ codes "heard" ∷ []
-handlers_of_kind Rbcast = codes "cast" ∷ codes "recv" ∷ []
-handlers_of_kind Cons = codes "propose" ∷ codes "recv" ∷ codes "decide" ∷ codes "advance" ∷ codes "suspect" ∷ []
-handlers_of_kind Abcast = codes "cast" ∷ codes "heard" ∷ codes "decided" ∷ []
-handlers_of_kind Seqcast = codes "cast" ∷ codes "recv" ∷ []
-handlers_of_kind Repl = codes "cast" ∷ codes "deliver" ∷ codes "switched" ∷ []
-handlers_of_kind Views = codes "ask" ∷ codes "install" ∷ []
 
 -- the handlers of a microprotocol: those of its script, and those of its kind
 abbrev pub handler_names : MicroDraft → List (List ℕ)

@@ -1,6 +1,7 @@
 pub mod Allowed
 pub mod Cells
 pub mod Entries
+pub mod Handlers
 pub mod NameRule
 pub mod Paths
 pub mod Range

@@ -55,3 +55,23 @@ handler_below micros name h =
     found_handler (position (bytes_eq (micro_part name)) names) (λ p. position (bytes_eq (handler_part name)) (handler_names (get_or micros p no_micro_draft))) (length micros)
     (λ p here. subst (λ n. p < n) (length-map micros (λ (m : MicroDraft). m.name)) (position_within (bytes_eq (micro_part name)) names p here))
     some
+
+-- the number of a handler is below the number of handlers that its microprotocol has
+made_there : (size : ℕ → ℕ) (p : ℕ) (o : Option ℕ) → ((i : ℕ) → o ≡ Some i → i < size p) → is_some (option_map (at p) o) ≡ true
+    → (unwrap_or (option_map (at p) o) no_handler).index < size (unwrap_or (option_map (at p) o) no_handler).micro.0
+made_there size p None below some = absurd (cc)
+made_there size p (Some i) below some = below i refl
+
+found_there : (size : ℕ → ℕ) (o : Option ℕ) (f : ℕ → Option ℕ) → ((p i : ℕ) → f p ≡ Some i → i < size p) → is_some (option_and_then (λ p. option_map (at p) (f p)) o) ≡ true
+    → (unwrap_or (option_and_then (λ p. option_map (at p) (f p)) o) no_handler).index < size (unwrap_or (option_and_then (λ p. option_map (at p) (f p)) o) no_handler).micro.0
+found_there size None f below some = absurd (cc)
+found_there size (Some p) f below some = made_there size p (f p) (below p) some
+
+pub handler_there : (micros : List MicroDraft) (name : List ℕ) → handler_unknown micros name ≡ None
+    → (handler_of micros name).index < length (handler_names (get_or micros (handler_of micros name).micro.0 no_micro_draft))
+handler_there micros name h =
+    let own : ℕ → List (List ℕ) = λ p. handler_names (get_or micros p no_micro_draft) in
+    let some : is_some (handler_in micros name) ≡ true = when_passes (is_some (handler_in micros name)) _ h in
+    found_there (λ p. length (own p)) (position (bytes_eq (micro_part name)) (map (λ (m : MicroDraft). m.name) micros)) (λ p. position (bytes_eq (handler_part name)) (own p))
+    (λ p i here. position_within (bytes_eq (handler_part name)) (own p) i here)
+    some

@@ -1,5 +1,5 @@
 -- The roots and the ends of a route's edges are among its vertices.
-use Rattle.std.proofs.Common.{◌≡◌, ℕ, ◌<◌, Bool, true, false, cond, List, [], ◌∷◌, ◌++◌, length, eqb, refl, sym, ap, ap₂, ◌∙◌, subst}
+use Rattle.std.proofs.Common.{◌≡◌, ℕ, ◌<◌, ◌≤◌, arith, Bool, true, false, cond, List, [], ◌∷◌, ◌++◌, length, eqb, refl, sym, ap, ap₂, ◌∙◌, subst}
 use Rattle.std.specs.Prelude.{◌||◌, ◌&&◌, unwrap_or}
 use Rattle.std.specs.List.{All, list_any, flat_map}
 use Rattle.std.proofs.lemmas.Bool.{and_parts, eqb-true}
@@ -55,6 +55,32 @@ edges_after_all P (e ∷ es) before each =
 
 pub edges_all : (P : (ℕ × ℕ) → Type 0) (es : List (ℕ × ℕ)) → All P es → All P (edges_after [] es)
 edges_all P es each = edges_after_all P es [] each
+
+-- ---- there are no more of the first ones
+
+few_if : {X : Type 0} (b : Bool) (skipped kept : List X) (n : ℕ) → length skipped ≤ n → length kept ≤ n → length (cond b skipped kept) ≤ n
+few_if true skipped kept n p q = p
+few_if false skipped kept n p q = q
+
+once_after_few : (hs before : List HandlerId) → length (once_after before hs) ≤ length hs
+once_after_few [] before = omega arith
+once_after_few (h ∷ hs) before =
+    let skipped = once_after_few hs before in
+    let kept = once_after_few hs (before ++ h ∷ []) in
+    few_if (has before h) (once_after before hs) (h ∷ once_after (before ++ h ∷ []) hs) (length (h ∷ hs)) (omega arith) (omega arith)
+
+pub once_few : (hs : List HandlerId) → length (once hs) ≤ length hs
+once_few hs = once_after_few hs []
+
+edges_after_few : (es before : List (ℕ × ℕ)) → length (edges_after before es) ≤ length es
+edges_after_few [] before = omega arith
+edges_after_few (e ∷ es) before =
+    let skipped = edges_after_few es before in
+    let kept = edges_after_few es (before ++ e ∷ []) in
+    few_if (list_any (same_edge e) before) (edges_after before es) (e ∷ edges_after (before ++ e ∷ []) es) (length (e ∷ es)) (omega arith) (omega arith)
+
+pub edges_few : (es : List (ℕ × ℕ)) → length (edges_after [] es) ≤ length es
+edges_few es = edges_after_few es []
 
 -- ---- the first ones have each of the list
 

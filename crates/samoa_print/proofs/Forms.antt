@@ -32,7 +32,7 @@ use Rattle.samoa_grammar.specs.Walks.{◌then◌}
 use Rattle.samoa_grammar.specs.Tests.{object_fault, required, optional, form_test, number_fault, number_from_fault, name_fault, items_fault, list_fault}
 use Rattle.samoa_grammar.specs.Forms.{code_fault, code_of, kind_named, kind_in, is_kind, kind_or_prog, is_prog, has_handlers, micro_keys, handlers_fault, micro_fault, handlers_of, micro_of, bound_fault, bound_of, are_two_handlers, is_edge, edge_among, edge_of, form_named, form_in, is_form, decl_keys, body_fault, body_of, decl_fault, decl_of, event_fault, event_of, table_fault, table_of, change_fault, change_of, same_test, cause_count_fault, cause_fault, do_fault, do_of, loss_fault, loss_of, crash_fault, crash_of, script_keys, is_version, form_of_all, draft_of}
 use Rattle.samoa_print.proofs.Parts.{then_none, Each, each_formed, each_item, IsNamed, IsHandlerNamed, IsWithin, name_part, number_part, from_part, HasItems, items_part, items_maybe, HasObjects, objects_part, objects_maybe, name_item, handler_item, form_passes, required_part, number_passes}
-use Rattle.samoa_print.proofs.Instrs.{IsProper, instr_item}
+use Rattle.samoa_grammar.proofs.Instrs.{IsProper, instr_item}
 
 -- ---- forms
 

@@ -2,7 +2,6 @@ pub mod Again
 pub mod Back
 pub mod Dedup
 pub mod Forms
-pub mod Handlers
 pub mod Instrs
 pub mod Named
 pub mod Parts

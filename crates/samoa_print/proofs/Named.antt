@@ -24,7 +24,8 @@ use Rattle.samoa_grammar.specs.declared.draft.Draft.{Draft}
 use Rattle.samoa_grammar.specs.Names.{is_dot, has_dot, micro_part, handler_part}
 use Rattle.samoa_grammar.specs.Meaning.{number_in_names, handler_names, no_micro_draft, handler_in, handler_of, event_named, change_named, micro_meant, decl_meant, event_meant, change_meant, script_of}
 use Rattle.samoa_grammar.specs.Passes.{among, micro_names, decl_names, event_names, change_names, handler_unknown}
-use Rattle.samoa_print.specs.Texts.{micro_text, decl_text, event_text, change_text, names_of_handlers, handler_text}
+use Rattle.samoa_model.specs.Handlers.{names_of_handlers, handler_text}
+use Rattle.samoa_print.specs.Texts.{micro_text, decl_text, event_text, change_text}
 use Rattle.samoa_print.proofs.Parts.{if_passes, IsHandlerNamed}
 use Rattle.samoa_print.proofs.Dedup.{IsSame, place_back}
 
@@ -177,7 +178,6 @@ parts_are t h =
     cut_at t (position_or_len is_dot t) 46 place.0 (dot_is (get_or t (position_or_len is_dot t) 0) place.1)
 
 text_at : (s : Script) (p h : ℕ) → handler_text s (record { micro = record { 0 = p }; index = h }) ≡ (micro_text s p ++ codes ".") ++ get_or (names_of_handlers (micro_at s p)) h []
-unfolding handler_text
 text_at s p h = refl
 
 -- a handler that is defined has the name that it was found by

@@ -29,7 +29,8 @@ use Rattle.samoa_grammar.specs.Meaning.{number_in_names, handler_of, micros_name
 use Rattle.samoa_grammar.specs.Passes.{twice, body_twice, twice_fault, among, micro_names, decl_names, event_names, change_names, handler_unknown, micro_unknown, body_unknown, event_unknown, table_unknown, change_unknown, cause_unknown, unknown_fault, ports_fault, code_total, vertices_fault, node_fault, loss_total, tick_fault, kinds_fault, totals_fault}
 use Rattle.samoa_grammar.specs.Tree.{IsJson}
 use Rattle.samoa_grammar.specs.Held.{walk_fault, script_meant, Holds}
-use Rattle.samoa_print.specs.Texts.{micro_text, event_text, change_text, handler_text}
+use Rattle.samoa_model.specs.Handlers.{handler_text}
+use Rattle.samoa_print.specs.Texts.{micro_text, event_text, change_text}
 use Rattle.samoa_print.specs.Canonical.{tree_of}
 use Rattle.samoa_print.specs.Valid.{IsValid}
 use Rattle.samoa_print.proofs.Back.{handlers_back, micro_back, bound_back, body_back, decl_back, event_back, table_back, change_back, cause_back, do_back, loss_back, crash_back, draft_back}

@@ -17,7 +17,7 @@ use Rattle.samoa_grammar.specs.declared.draft.Draft.{Draft}
 use Rattle.samoa_grammar.specs.Walks.{◌then◌, first_along}
 use Rattle.samoa_grammar.specs.Meaning.{handler_of, once_after, once, vertices_of, vertex_of, same_edge, edges_after, edge_numbers, route_of, body_meant, script_of}
 use Rattle.samoa_grammar.specs.Passes.{handler_unknown, body_unknown, vertices_fault}
-use Rattle.samoa_print.specs.Texts.{handler_text}
+use Rattle.samoa_model.specs.Handlers.{handler_text}
 use Rattle.samoa_print.proofs.Back.{vertex_text, edge_back}
 use Rattle.samoa_print.proofs.Parts.{none_then, then_none, Each, map_each, each_more, map_map, map_same, map_itself, IsHandlerNamed}
 use Rattle.samoa_print.proofs.Forms.{AreHandlers, AreAll, EdgeForm, BodyForm}

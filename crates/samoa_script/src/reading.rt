@@ -1,12 +1,11 @@
 //! Bytes to a script.
 ghost use Rattle.std.specs.Prelude.{◌≡◌, ◌⊎◌, ℕ, List, IfOk, IfErr};
-ghost use Rattle.std.specs.List.{All};
 ghost use Rattle.serde_json.specs.View.{view};
 ghost use Rattle.samoa_model.specs.declared.script.Script.{Script as ScriptValue};
-ghost use Rattle.samoa_model.specs.Range.{HasDecls, IsInRange};
+ghost use Rattle.samoa_model.specs.Range.{IsInRange};
 ghost use Rattle.samoa_grammar.specs.Held.{walk_fault, script_meant, Holds};
 ghost use Rattle.samoa_form.specs.Reads.{Reads};
-ghost use Rattle.samoa_naming.specs.Sound.{HasShortCodes, HasPositions, HasPorts, HasFewOfEach, IsLossOf, IsCrashOf};
+ghost use Rattle.samoa_naming.specs.Sound.{HasFewOfEach};
 ghost use Rattle.samoa_script.specs.declared.fault.ScriptFault.{ScriptFault as FaultValue};
 ghost use Rattle.samoa_script.specs.Fails.{Fails, HasScript, HasFault};
 
@@ -36,7 +35,6 @@ pub fn read_script(alloc: Global, bytes: &[u8]) -> Result<Script, ScriptFault>
     ensures ok { IfOk result (Holds bytes.now) }
     ensures fault { IfErr result (Fails bytes.now) }
     ensures in_range { IfOk result IsInRange }
-    ensures short { IfOk result HasShortCodes }
 {
     if bytes.len() > MOST_BYTES {
         return Err(ScriptFault::TooLong);
@@ -65,15 +63,10 @@ pub fn some_answer()
     ensures { (bytes : List ℕ) → HasScript bytes ⊎ HasFault bytes }
 {}
 
-/// What a script keeps to that bytes hold: it is in range, its handlers are short, each instruction's position is there,
-/// each kind has its ports and is few, and what its declarations, losses and crashes name is there.
+/// What a script keeps to that bytes hold: it is in range, and of each kind the nodes together have at most 32
+/// microprotocols. In range means that each number names something of the script, handlers and the positions of
+/// instructions included, and that each list keeps to its limit.
 pub fn whole_limits()
     ensures in_range { (bytes : List ℕ) (script : ScriptValue) → Holds bytes script → IsInRange script }
-    ensures short { (bytes : List ℕ) (script : ScriptValue) → Holds bytes script → HasShortCodes script }
-    ensures positions { (bytes : List ℕ) (script : ScriptValue) → Holds bytes script → HasPositions script }
-    ensures ports { (bytes : List ℕ) (script : ScriptValue) → Holds bytes script → HasPorts script }
     ensures kinds { (bytes : List ℕ) (script : ScriptValue) → Holds bytes script → HasFewOfEach script }
-    ensures decls { (bytes : List ℕ) (script : ScriptValue) → Holds bytes script → HasDecls script }
-    ensures losses { (bytes : List ℕ) (script : ScriptValue) → Holds bytes script → All (IsLossOf script) script.losses }
-    ensures crashes { (bytes : List ℕ) (script : ScriptValue) → Holds bytes script → All (IsCrashOf script) script.crashes }
 {}

@@ -3,12 +3,11 @@ use Rattle.std.proofs.Common.{◌≡◌, ℕ, ◌-◌, ◌<◌, ◌≤◌, List,
 use Rattle.std.proofs.lemmas.List.{get_or_append_left, get_or-append_right, get_or-map, length-map, get_or_past}
 use Rattle.samoa_model.specs.declared.script.CodeDef.{CodeDef}
 use Rattle.samoa_model.specs.declared.script.MicroDef.{MicroDef}
-use Rattle.samoa_grammar.specs.Meaning.{handlers_of_kind}
-use Rattle.samoa_print.specs.Texts.{names_of_handlers}
+use Rattle.samoa_model.specs.Handlers.{handlers_of_kind, names_of_handlers}
 
 -- a number below the number of the script's handlers names one of those
-pub own_name : (m : MicroDef) (i : ℕ) (h : CodeDef) → i < length m.handlers → h ≡ get_or m.handlers i h → get_or (names_of_handlers m) i [] ≡ h.name
-own_name m i h below is =
+pub name_of_script : (m : MicroDef) (i : ℕ) (h : CodeDef) → i < length m.handlers → h ≡ get_or m.handlers i h → get_or (names_of_handlers m) i [] ≡ h.name
+name_of_script m i h below is =
     let names : List (List ℕ) = map (λ (c : CodeDef). c.name) m.handlers in
     let inside : i < length names = rw (length-map m.handlers (λ (c : CodeDef). c.name)) below in
     get_or_append_left names (handlers_of_kind m.kind) [] i inside
@@ -16,8 +15,8 @@ own_name m i h below is =
     ∙ ap (λ (c : CodeDef). c.name) (sym is)
 
 -- a greater number names a handler of the kind
-pub kind_name : (m : MicroDef) (i : ℕ) → length m.handlers ≤ i → get_or (names_of_handlers m) i [] ≡ get_or (handlers_of_kind m.kind) (i - length m.handlers) []
-kind_name m i past =
+pub name_of_kind : (m : MicroDef) (i : ℕ) → length m.handlers ≤ i → get_or (names_of_handlers m) i [] ≡ get_or (handlers_of_kind m.kind) (i - length m.handlers) []
+name_of_kind m i past =
     get_or-append_right (map (λ (c : CodeDef). c.name) m.handlers) (handlers_of_kind m.kind) (length m.handlers) i []
     (length-map m.handlers (λ (c : CodeDef). c.name)) past
 
