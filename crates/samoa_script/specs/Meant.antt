@@ -5,7 +5,7 @@ use Rattle.samoa_model.specs.declared.script.Script.{Script}
 use Rattle.samoa_grammar.specs.Held.{walk_fault, script_meant}
 
 -- a script that some tree means which passes the walk
-pub record IsValid (script : Script) : Type 0 where
+pub record IsMeant (script : Script) : Type 0 where
   pub tree : Data
   pub passes : walk_fault tree ≡ None
   pub means : script ≡ script_meant tree

@@ -1,17 +1,52 @@
 -- Lists in which each item stands once.
 use Rattle.std.proofs.Common.{◌≡◌, ℕ, suc, ◌+◌, ◌<◌, ◌≤◌, Bool, true, false, List, [], ◌∷◌, ◌++◌, length, get_or, Some, None, refl, sym, ap, ap₂, ◌∙◌, subst, cond, arith}
-use Rattle.std.specs.Prelude.{◌||◌, not, nat_lt, unwrap_or}
-use Rattle.std.specs.List.{list_any, flat_map, position, position_or_len}
+use Rattle.std.specs.Prelude.{◌||◌, ◌==◌, not, nat_lt, unwrap_or, bytes_eq}
+use Rattle.std.specs.List.{All, list_any, flat_map, position, position_or_len}
 use Rattle.std.proofs.lemmas.Bool.Decides.{nat_tests}
 use Rattle.std.proofs.lemmas.List.{append_assoc, append-nil}
+use Rattle.std.proofs.lemmas.List.Elements.{All-nil, All-cons, All-head, All-tail}
 use Rattle.std.proofs.lemmas.List.Folds.{list_any-append}
 use Rattle.std.proofs.lemmas.List.Quantifiers.{position-Some}
-use Rattle.samoa_print.proofs.Parts.{Each}
+use Rattle.std.proofs.lemmas.Bool.{and_parts, and_from}
+use Rattle.std.proofs.lemmas.Slice.Eq.{bytes_eq-Decides}
+use Rattle.samoa_model.specs.declared.ids.HandlerId.{HandlerId}
+use Rattle.samoa_model.specs.Allowed.{same_handler}
+use Rattle.samoa_model.specs.Routes.{once_after}
+use Rattle.samoa_grammar.specs.Meaning.{same_edge, edges_after}
 
 -- a test that passes equal items alone
 pub record IsSame {X : Type 0} (same : X → X → Bool) : Type 0 where
   pub itself : (x : X) → same x x ≡ true
   pub equal : (x y : X) → same x y ≡ true → x ≡ y
+
+pub same_bytes : IsSame bytes_eq
+same_bytes = record { itself = λ x. (bytes_eq-Decides x x).1 refl; equal = λ x y h. (bytes_eq-Decides x y).0 h }
+
+pub equal_numbers : (a b : ℕ) → (a == b) ≡ true → a ≡ b
+equal_numbers a b h = grind (arith, nat_tests)
+
+pub same_number : (a : ℕ) → (a == a) ≡ true
+same_number a = grind (arith, nat_tests)
+
+pub same_handlers : IsSame same_handler
+same_handlers = record {
+  itself = λ x. and_from (x.micro.0 == x.micro.0) (x.index == x.index) (same_number x.micro.0) (same_number x.index);
+  equal = λ x y h.
+      let p = and_parts (x.micro.0 == y.micro.0) (x.index == y.index) h in
+      let micro = equal_numbers x.micro.0 y.micro.0 p.0 in
+      let index = equal_numbers x.index y.index p.1 in
+      λ i. record { micro = record { 0 = micro i }; index = index i };
+}
+
+pub same_edges : IsSame same_edge
+same_edges = record {
+  itself = λ x. and_from (x.0 == x.0) (x.1 == x.1) (same_number x.0) (same_number x.1);
+  equal = λ x y h.
+      let p = and_parts (x.0 == y.0) (x.1 == y.1) h in
+      let a = equal_numbers x.0 y.0 p.0 in
+      let b = equal_numbers x.1 y.1 p.1 in
+      λ i. (a i, b i);
+}
 
 -- ---- the place of an item
 
@@ -19,7 +54,7 @@ step_below : (b rest : Bool) (n len : ℕ) → (b || rest) ≡ true → (rest �
 step_below true rest n len h f = omega arith
 step_below false rest n len h f = let g = f h in omega arith
 
-place_below : {X : Type 0} (p : X → Bool) (xs : List X) → list_any p xs ≡ true → position_or_len p xs < length xs
+pub place_below : {X : Type 0} (p : X → Bool) (xs : List X) → list_any p xs ≡ true → position_or_len p xs < length xs
 place_below p [] h = cc
 place_below p (x ∷ xs) h = step_below (p x) (list_any p xs) (position_or_len p xs) (length xs) h (place_below p xs)
 
@@ -42,6 +77,14 @@ place_back same laws xs x d h =
 abbrev pub dedup : {X : Type 0} (same : X → X → Bool) → List X → List X → List X
 dedup same before [] = []
 dedup same before (x ∷ xs) = cond (list_any (same x) before) (dedup same before xs) (x ∷ dedup same (before ++ x ∷ []) xs)
+
+pub once_is : (b hs : List HandlerId) → once_after b hs ≡ dedup same_handler b hs
+once_is b [] = refl
+once_is b (h ∷ hs) = ap₂ (λ u v. cond (list_any (same_handler h) b) u (h ∷ v)) (once_is b hs) (once_is (b ++ h ∷ []) hs)
+
+pub edges_is : (b es : List (ℕ × ℕ)) → edges_after b es ≡ dedup same_edge b es
+edges_is b [] = refl
+edges_is b (e ∷ es) = ap₂ (λ u v. cond (list_any (same_edge e) b) u (e ∷ v)) (edges_is b es) (edges_is (b ++ e ∷ []) es)
 
 pub dedup_same : {X : Type 0} (same : X → X → Bool) (b c : List X) → ((z : X) → list_any (same z) b ≡ list_any (same z) c) → (xs : List X) → dedup same b xs ≡ dedup same c xs
 dedup_same same b c e [] = refl
@@ -113,14 +156,16 @@ front_once same laws hs ts =
     ∙ ap₂ (λ u v. u ++ v) (dedup_again same [] hs) (dedup_same same (dedup same [] hs) hs (dedup_kept same laws [] hs) ts)
     ∙ sym (dedup_append same laws [] hs ts)
 
-each_step : {X : Type 0} (P : X → Type 0) (k : Bool) (x : X) (us vs : List X) → P x → Each P us → Each P vs → Each P (cond k us (x ∷ vs))
-each_step P true x us vs p u v = u
-each_step P false x us vs p u v = (p, v)
+-- what each item is, each that is kept is
+all_step : {X : Type 0} (P : X → Type 0) (k : Bool) (x : X) (us vs : List X) → P x → All P us → All P vs → All P (cond k us (x ∷ vs))
+all_step P true x us vs p u v = u
+all_step P false x us vs p u v = All-cons P x vs p v
 
-pub each_dedup : {X : Type 0} (P : X → Type 0) (same : X → X → Bool) (b xs : List X) → Each P xs → Each P (dedup same b xs)
-each_dedup P same b [] h = tt
-each_dedup P same b (x ∷ xs) h =
-    each_step P (list_any (same x) b) x (dedup same b xs) (dedup same (b ++ x ∷ []) xs) h.0 (each_dedup P same b xs h.1) (each_dedup P same (b ++ x ∷ []) xs h.1)
+pub dedup_all : {X : Type 0} (P : X → Type 0) (same : X → X → Bool) (b xs : List X) → All P xs → All P (dedup same b xs)
+dedup_all P same b [] each = All-nil P
+dedup_all P same b (x ∷ xs) each =
+    let rest = All-tail P x xs each in
+    all_step P (list_any (same x) b) x (dedup same b xs) (dedup same (b ++ x ∷ []) xs) (All-head P x xs each) (dedup_all P same b xs rest) (dedup_all P same (b ++ x ∷ []) xs rest)
 
 length_step : {X : Type 0} (k : Bool) (x : X) (us vs : List X) (n : ℕ) → length us ≤ n → length vs ≤ n → length (cond k us (x ∷ vs)) ≤ suc n
 length_step true x us vs n u v = omega arith
