@@ -13,7 +13,7 @@ use Rattle.samoa_invariant.proofs.Due.{due-after, due-append, pairs-append, run-
 use Rattle.samoa_invariant.proofs.Releasing.{end_ends, ended_releases, release_opens}
 use Rattle.samoa_invariant.proofs.Slots.{put_at-here}
 use Rattle.samoa_invariant.proofs.Traces.{invariant, is_run-with_step}
-use Rattle.samoa_invariant.proofs.Versions.{same_or_not}
+use Rattle.samoa_invariant.proofs.Versions.{less_or_from, same_or_not}
 
 -- a release lets only a later computation's become due, at the same microprotocol of the same node
 pub release-opens : (t : Trace) (c p d q : ℕ) → IsRun t → IsDue t (Step.Release c p) → IsDue (with_step t (Step.Release c p)) (Step.Release d q)
@@ -97,15 +97,12 @@ releases_of-skip t u c m n r le not_due = record {
   none = λ p lt. go p lt;
 }
   where
-    below : (p : ℕ) → (p < m) ⊎ (m ≤ p)
-    below p = grind arith
-
     at : (p : ℕ) → p < n → (p < m) ⊎ (m ≤ p) → IsDue u (Step.Release c p) → ⊥
     at p lt (inl before) = r.none p before
     at p lt (inr from) = not_due p from lt
 
     go : (p : ℕ) → p < n → IsDue u (Step.Release c p) → ⊥
-    go p lt = at p lt (below p)
+    go p lt = at p lt (less_or_from p m)
 
 pub releases_of-make : (t u : Trace) (c m : ℕ) → IsRun t → ReleasesOf t u c m → IsDue u (Step.Release c m) → ReleasesOf t (with_step u (Step.Release c m)) c (suc m)
 releases_of-make t u c m run r due = record {
@@ -171,12 +168,9 @@ releases_before-skip t u c d r le not_due = record {
   due = r.due;
   releases = All-weaker (IsReleaseBefore c) (IsReleaseBefore d) (before-more c d le) r.steps r.releases;
   rising = r.rising;
-  none = λ j p lt. at j p lt (below j);
+  none = λ j p lt. at j p lt (less_or_from j c);
 }
   where
-    below : (j : ℕ) → (j < c) ⊎ (c ≤ j)
-    below j = grind arith
-
     at : (j p : ℕ) → j < d → (j < c) ⊎ (c ≤ j) → IsDue u (Step.Release j p) → ⊥
     at j p lt (inl before) = r.none j p before
     at j p lt (inr from) = not_due j p from lt
@@ -206,15 +200,12 @@ releases_before-make t u v c m run a b not_due = record {
     now : IsRun u
     now = releases_before-run t u c run a
 
-    below : (p : ℕ) → (p < m) ⊎ (m ≤ p)
-    below p = grind arith
-
     own : (p : ℕ) → IsDue v (Step.Release c p) → (p < m) ⊎ (m ≤ p) → ⊥
     own p due (inl lt) = b.none p lt due
     own p due (inr le) = not_due p le due
 
     go : (j p : ℕ) → j < suc c → IsDue v (Step.Release j p) → (j ≡ c) ⊎ (j ≢ c) → ⊥
-    go j p lt due (inl e) = own p (subst (λ (k : ℕ). IsDue v (Step.Release k p)) e due) (below p)
+    go j p lt due (inl e) = own p (subst (λ (k : ℕ). IsDue v (Step.Release k p)) e due) (less_or_from p m)
     go j p lt due (inr ne) =
         a.none j p (omega arith)
         (releases_of-open_later u b.steps c m j p now b.due b.releases (omega arith) (subst (λ (w : Trace). IsDue w (Step.Release j p)) b.made due))
@@ -231,12 +222,9 @@ releases_before-all t u c r not_due = record {
   due = r.due;
   releases = All-weaker (IsReleaseBefore c) IsRelease (release-kind c) r.steps r.releases;
   rising = r.rising;
-  none = λ j p. at j p (below j);
+  none = λ j p. at j p (less_or_from j c);
 }
   where
-    below : (j : ℕ) → (j < c) ⊎ (c ≤ j)
-    below j = grind arith
-
     at : (j p : ℕ) → (j < c) ⊎ (c ≤ j) → IsDue u (Step.Release j p) → ⊥
     at j p (inl before) = r.none j p before
     at j p (inr from) = not_due j p from
@@ -266,12 +254,9 @@ ends_before-skip t u c d r le not_due = record {
   due = r.due;
   ends = All-weaker (IsEndBefore c) (IsEndBefore d) (end-more c d le) r.steps r.ends;
   rising = r.rising;
-  none = λ j lt. at j lt (below j);
+  none = λ j lt. at j lt (less_or_from j c);
 }
   where
-    below : (j : ℕ) → (j < c) ⊎ (c ≤ j)
-    below j = grind arith
-
     at : (j : ℕ) → j < d → (j < c) ⊎ (c ≤ j) → IsDue u (Step.End j) → ⊥
     at j lt (inl before) = r.none j before
     at j lt (inr from) = not_due j from lt
@@ -304,12 +289,9 @@ ends_before-all t u c r not_due = record {
   due = r.due;
   ends = All-weaker (IsEndBefore c) IsEnd (end-kind c) r.steps r.ends;
   rising = r.rising;
-  none = λ j. at j (below j);
+  none = λ j. at j (less_or_from j c);
 }
   where
-    below : (j : ℕ) → (j < c) ⊎ (c ≤ j)
-    below j = grind arith
-
     at : (j : ℕ) → (j < c) ⊎ (c ≤ j) → IsDue u (Step.End j) → ⊥
     at j (inl before) = r.none j before
     at j (inr from) = not_due j from

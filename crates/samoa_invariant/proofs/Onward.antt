@@ -8,10 +8,7 @@ use Rattle.samoa_invariant.specs.Picking.{GoesOnItself, IsFirstToEnter, IsLeastU
 use Rattle.samoa_invariant.proofs.Progress.{active_enters, ended-none_enters, ended_stays, head_next, idle_goes_on, least_enters, none_enters-ended, open_or_ended}
 use Rattle.samoa_invariant.proofs.Standing.{stopped_is}
 use Rattle.samoa_invariant.proofs.Traces.{invariant}
-use Rattle.samoa_invariant.proofs.Versions.{in_order}
-
-less : (k : ℕ) → k ≡ suc k - 1
-less k = omega arith
+use Rattle.samoa_invariant.proofs.Versions.{in_order, place_of}
 
 -- what is picked is determined
 pub pick-same : (t : Trace) (a b : Option ℕ) → IsPick t a → IsPick t b → a ≡ b
@@ -32,7 +29,7 @@ running t not_abandoned = stopped_is t ∙ not_abandoned
 pub none-ended : (t : Trace) → IsRun t → has_abandon t.journal ≡ false → IsSettled (play t) (state t) → NothingOut (state t) → NoEnterIsDue t → AllEnded (state t)
 none-ended t run not_abandoned settled home none =
     ended-none_enters (play t) (state t) (invariant t run) (running t not_abandoned) settled home
-    (λ k p can. none (suc k) p (record { number = omega arith; enabled = subst (λ (j : ℕ). CanEnter (play t) (state t) j p) (less k) can }))
+    (λ k p can. none (suc k) p (record { number = omega arith; enabled = subst (λ (j : ℕ). CanEnter (play t) (state t) j p) (place_of k) can }))
 
 pub ended-none : (t : Trace) → IsRun t → AllEnded (state t) → NoEnterIsDue t
 ended-none t run all comp micro due = none_enters-ended (play t) (state t) (invariant t run) all (comp - 1) micro due.enabled
@@ -57,7 +54,7 @@ leave-due t node micro k run out =
     let there : (state t).out ((play t).node k) micro ≡ Some k = ap (λ (v : ℕ). (state t).out v micro) (sym rightly.node) ∙ out in
     record {
       number = omega arith;
-      enabled = subst (λ (j : ℕ). model.CanLeave (play t) (state t) j) (less k) (record { slot = micro; out = record { admitted = rightly.admitted; out = there } });
+      enabled = subst (λ (j : ℕ). model.CanLeave (play t) (state t) j) (place_of k) (record { slot = micro; out = record { admitted = rightly.admitted; out = there } });
     }
 
 -- where nothing is out, the least that hasn't ended goes on
@@ -82,5 +79,5 @@ pub unended : (t : Trace) → AllEnded (state t) ⊎ ((comp : ℕ) × IsLeastUne
 unended t = go (open_or_ended (state t))
   where
     go : ((k : ℕ) × IsLeastOpen (state t) k) ⊎ AllEnded (state t) → AllEnded (state t) ⊎ ((comp : ℕ) × IsLeastUnended t comp)
-    go (inl found) = inr (suc found.0, record { number = omega arith; least = subst (λ (j : ℕ). IsLeastOpen (state t) j) (less found.0) found.1 })
+    go (inl found) = inr (suc found.0, record { number = omega arith; least = subst (λ (j : ℕ). IsLeastOpen (state t) j) (place_of found.0) found.1 })
     go (inr all) = inl all

@@ -1,4 +1,4 @@
--- The six parts follow from the invariant.
+-- What the invariant says in the words of the private and local versions.
 use Rattle.std.proofs.Common.{arith, ◌≡◌, ◌≢◌, ℕ, zero, suc, ◌+◌, ◌-◌, ◌≤◌, ◌<◌, ◌⊎◌, inl, inr, sym, ap, ◌∙◌, subst, [], Some}
 use Rattle.samoa_serial.specs.declared.call.Call.{Call}
 use Rattle.samoa_model.specs.declared.handler.Moment.{Moment}
@@ -7,7 +7,7 @@ use Rattle.samoa_model.specs.Allowed.{weight}
 use Rattle.samoa_invariant.specs.Play.{IsIdle, Never, NotAt, Play, attempts, done, opened, point, rules, version, weight_at}
 use Rattle.samoa_invariant.specs.State.{Core, HasTurn, IsNextAt}
 use Rattle.samoa_invariant.specs.Inv.{Invariant, IsDone, IsOutRightly, Owns}
-use Rattle.samoa_invariant.specs.Parts.{OutInTurn, SixParts, StatesAreSerial, StepsAreInTurn, VersionsAreSums}
+use Rattle.samoa_invariant.specs.Parts.{OutInTurn, StandsSerially, StatesAreSerial, StepsAreInTurn, VersionsAreSums}
 use Rattle.samoa_invariant.proofs.Versions.{in_order, same_or_not, some_owner, version-own, weight_at-else}
 use Rattle.samoa_invariant.proofs.Slots.{owns_turn, turn_owns}
 use Rattle.samoa_invariant.proofs.Steps.{some_injective}
@@ -106,8 +106,8 @@ states_are_serial P core i = record {
                 let below : core.local v p < version P (suc o.0) v p = o.2.below in
                 omega arith
 
-pub six_parts : (P : Play) (core : Core) → Invariant P core → SixParts P core
-six_parts P core i = record {
+pub stands_serially : (P : Play) (core : Core) → Invariant P core → StandsSerially P core
+stands_serially P core i = record {
   versions = versions_are_sums P core i;
   steps = steps_are_in_turn P core i;
   out = out_in_turn P core i;

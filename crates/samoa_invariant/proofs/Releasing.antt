@@ -14,7 +14,7 @@ use Rattle.samoa_invariant.specs.Settling.{AreDue, EndsAll, EndsFirst, IsEnd, Is
 use Rattle.samoa_invariant.proofs.Due.{after-due, due-after, run-with_steps, same-steps, with-more, with-none}
 use Rattle.samoa_invariant.proofs.Slots.{put-else, put-here, put_at-else, put_at-here, slot_or_not, turn_declares, turn_owns}
 use Rattle.samoa_invariant.proofs.Traces.{fewer, invariant, is_run-with_step, state-step}
-use Rattle.samoa_invariant.proofs.Versions.{in_order, owns_single, same_or_not, version-mono}
+use Rattle.samoa_invariant.proofs.Versions.{in_order, owns_single, place_of, same_or_not, version-mono}
 
 -- of one slot one computation has its turn
 pub turns_same : (P : Play) (core : Core) (j q k p : ℕ) → Invariant P core → P.node j ≡ P.node k → q ≡ p → HasTurn P core j q → HasTurn P core k p → j ≡ k
@@ -213,13 +213,10 @@ ends-open_none t (x ∷ xs) c p run due ends new =
         record { number = there.number; enabled = end_releases (play t) (state t) (d - 1) (c - 1) p there.enabled }
     one y can end later = absurd end
 
-less : (k : ℕ) → k ≡ suc k - 1
-less k = omega arith
-
 pub settles-settled : (t u : Trace) → IsRun t → Settles t u → IsSettled (play u) (state u)
 settles-settled t u run s = record {
-  released = λ k p can. released (suc k) p (record { number = omega arith; enabled = subst (λ (j : ℕ). CanRelease (play u) (state u) j p) (less k) can });
-  ended = λ k can. s.ends.none (suc k) (record { number = omega arith; enabled = subst (λ (j : ℕ). CanEnd (play u) (state u) j) (less k) can });
+  released = λ k p can. released (suc k) p (record { number = omega arith; enabled = subst (λ (j : ℕ). CanRelease (play u) (state u) j p) (place_of k) can });
+  ended = λ k can. s.ends.none (suc k) (record { number = omega arith; enabled = subst (λ (j : ℕ). CanEnd (play u) (state u) j) (place_of k) can });
 }
   where
     released : (c p : ℕ) → IsDue u (Step.Release c p) → ⊥

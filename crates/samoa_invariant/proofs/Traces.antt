@@ -24,6 +24,7 @@ use Rattle.samoa_invariant.proofs.Lefts.{step_fewer}
 use Rattle.samoa_invariant.proofs.Parts.{states_are_serial}
 use Rattle.samoa_invariant.proofs.Progress.{ended_or_goes_on}
 use Rattle.samoa_invariant.proofs.Scripted.{get_is, get_there, plays}
+use Rattle.samoa_invariant.proofs.Versions.{place_of}
 use Rattle.samoa_invariant.proofs.Serials.{script_answers, script_states, stood_is, whole_is}
 
 pub opening_is_run : (script : Script) (cells : ℕ) → IsRun (opening_trace script cells)
@@ -155,16 +156,13 @@ points t run =
 pub onward : (t : Trace) → IsRun t → (state t).stopped ≡ false → AllEnded (state t) ⊎ ((step : Step) × GoesOn step × IsDue t step)
 onward t run running = go (ended_or_goes_on (play t) (state t) (invariant t run) running)
   where
-    less : (k : ℕ) → k ≡ suc k - 1
-    less k = omega arith
-
     from : (step : model.Step) → model.IsForward step → model.IsEnabled (play t) (state t) step → (step : Step) × GoesOn step × IsDue t step
     from model.Step.Admit f can = absurd f
-    from (model.Step.Enter k p) f can = (Step.Enter (suc k) p, tt, record { number = omega arith; enabled = subst (λ (j : ℕ). model.CanEnter (play t) (state t) j p) (less k) can })
-    from (model.Step.Leave k) f can = (Step.Leave (suc k), tt, record { number = omega arith; enabled = subst (λ (j : ℕ). model.CanLeave (play t) (state t) j) (less k) can })
+    from (model.Step.Enter k p) f can = (Step.Enter (suc k) p, tt, record { number = omega arith; enabled = subst (λ (j : ℕ). model.CanEnter (play t) (state t) j p) (place_of k) can })
+    from (model.Step.Leave k) f can = (Step.Leave (suc k), tt, record { number = omega arith; enabled = subst (λ (j : ℕ). model.CanLeave (play t) (state t) j) (place_of k) can })
     from (model.Step.Abandon k) f can = absurd f
-    from (model.Step.Release k p) f can = (Step.Release (suc k) p, tt, record { number = omega arith; enabled = subst (λ (j : ℕ). model.CanRelease (play t) (state t) j p) (less k) can })
-    from (model.Step.End k) f can = (Step.End (suc k), tt, record { number = omega arith; enabled = subst (λ (j : ℕ). model.CanEnd (play t) (state t) j) (less k) can })
+    from (model.Step.Release k p) f can = (Step.Release (suc k) p, tt, record { number = omega arith; enabled = subst (λ (j : ℕ). model.CanRelease (play t) (state t) j p) (place_of k) can })
+    from (model.Step.End k) f can = (Step.End (suc k), tt, record { number = omega arith; enabled = subst (λ (j : ℕ). model.CanEnd (play t) (state t) j) (place_of k) can })
     from model.Step.Clear f can = absurd f
 
     go : AllEnded (state t) ⊎ ((step : model.Step) × model.IsForward step × model.IsEnabled (play t) (state t) step) → AllEnded (state t) ⊎ ((step : Step) × GoesOn step × IsDue t step)

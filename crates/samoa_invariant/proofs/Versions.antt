@@ -1,5 +1,5 @@
 -- The intervals of the computations at a slot.
-use Rattle.std.proofs.Common.{arith, ◌≡◌, ◌≢◌, ℕ, zero, suc, ◌+◌, ◌*◌, ◌≤◌, ◌<◌, ◌⊎◌, inl, inr, refl, ap, eq-eqb, ne_eqb, ◌==◌, if◌then◌else◌}
+use Rattle.std.proofs.Common.{arith, ◌≡◌, ◌≢◌, ℕ, zero, suc, ◌+◌, ◌-◌, ◌*◌, ◌≤◌, ◌<◌, ◌⊎◌, inl, inr, refl, ap, eq-eqb, ne_eqb, ◌==◌, if◌then◌else◌}
 use Rattle.samoa_model.specs.Allowed.{weight}
 use Rattle.samoa_invariant.specs.Play.{Play, weight_at, version}
 use Rattle.samoa_invariant.specs.Inv.{Owns}
@@ -13,6 +13,13 @@ same_or_not (suc a) (suc b) = go (same_or_not a b)
     go : (a ≡ b) ⊎ (a ≢ b) → (suc a ≡ suc b) ⊎ (suc a ≢ suc b)
     go (inl e) = inl (ap suc e)
     go (inr ne) = inr (λ e. ne (omega arith))
+
+pub less_or_from : (a b : ℕ) → (a < b) ⊎ (b ≤ a)
+less_or_from a b = grind arith
+
+-- the place of the computation with the next number
+pub place_of : (k : ℕ) → k ≡ suc k - 1
+place_of k = omega arith
 
 pub if_here : {A : Type 0} (a b : ℕ) (x y : A) → a ≡ b → (if a == b then x else y) ≡ x
 if_here a b x y e = rw (eq-eqb a b e) refl

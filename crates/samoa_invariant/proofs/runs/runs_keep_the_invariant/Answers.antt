@@ -1,5 +1,5 @@
 use Rattle.samoa_invariant.specs.Runs.{play, state}
-use Rattle.samoa_invariant.proofs.Parts.{six_parts}
+use Rattle.samoa_invariant.proofs.Parts.{stands_serially}
 use Rattle.samoa_invariant.proofs.Traces.{count-few, count-most, invariant, reached}
 use Rattle.samoa_invariant.proofs.runs.runs_keep_the_invariant.Goals as goal
 
@@ -7,7 +7,7 @@ pub returns : goal.returns
 returns c = record {
   reached = reached;
   kept = invariant;
-  parts = λ t run. six_parts (play t) (state t) (invariant t run);
+  parts = λ t run. stands_serially (play t) (state t) (invariant t run);
   admitted = count-most;
   few = count-few;
 }
