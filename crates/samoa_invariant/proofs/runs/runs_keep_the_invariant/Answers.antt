@@ -1,6 +1,6 @@
 use Rattle.samoa_invariant.specs.Runs.{play, state}
-use Rattle.samoa_invariant.proofs.Parts.{stands_serially}
-use Rattle.samoa_invariant.proofs.Traces.{count-few, count-most, invariant, reached}
+use Rattle.samoa_invariant.proofs.refinement.Parts.{stands_serially}
+use Rattle.samoa_invariant.proofs.representation.Traces.{count-few, count-most, invariant, reached}
 use Rattle.samoa_invariant.proofs.runs.runs_keep_the_invariant.Goals as goal
 
 pub returns : goal.returns
