@@ -226,11 +226,27 @@ settles-settled t u run s = record {
         (ends-open_none s.between s.ends.steps c p (released-run t s.between run s.releases) s.ends.due s.ends.ends
         (subst (λ (w : Trace). IsDue w (Step.Release c p)) s.ends.made due))
 
+unmoved_here : (core : Core) → IsUnmoved core core
+unmoved_here core = record {
+  count = refl;
+  present = refl;
+  global = refl;
+  boxes = refl;
+  out = refl;
+  cells = refl;
+  stopped = refl;
+  table = refl;
+  from = refl;
+  private = refl;
+  comp = refl;
+  made = refl;
+}
+
 -- what they leave as it was, and that no more is left to do
 leaves-none : (t : Trace) → IsRun t → LeavesTheRest t t
 leaves-none t run = record {
   run = run;
-  unmoved = record { count = refl; boxes = refl; out = refl; cells = refl; stopped = refl; comp = refl; made = refl };
+  unmoved = unmoved_here (state t);
   not_more = omega arith;
 }
 
@@ -239,10 +255,15 @@ leaves-then t u v a b = record {
   run = b.run;
   unmoved = record {
     count = b.unmoved.count ∙ a.unmoved.count;
+    present = b.unmoved.present ∙ a.unmoved.present;
+    global = b.unmoved.global ∙ a.unmoved.global;
     boxes = b.unmoved.boxes ∙ a.unmoved.boxes;
     out = b.unmoved.out ∙ a.unmoved.out;
     cells = b.unmoved.cells ∙ a.unmoved.cells;
     stopped = b.unmoved.stopped ∙ a.unmoved.stopped;
+    table = b.unmoved.table ∙ a.unmoved.table;
+    from = b.unmoved.from ∙ a.unmoved.from;
+    private = b.unmoved.private ∙ a.unmoved.private;
     comp = b.unmoved.comp ∙ a.unmoved.comp;
     made = b.unmoved.made ∙ a.unmoved.made;
   };
@@ -258,12 +279,38 @@ leaves-step t x run goes due m = record {
 
 pub release-leaves : (t : Trace) (x : Step) → IsRun t → IsRelease x → IsDue t x → LeavesTheRest t (with_step t x)
 release-leaves t (Step.Release c p) run kind due =
-    leaves-step t (Step.Release c p) run tt due (record { count = refl; boxes = refl; out = refl; cells = refl; stopped = refl; comp = refl; made = refl })
+    leaves-step t (Step.Release c p) run tt due (record {
+      count = refl;
+      present = refl;
+      global = refl;
+      boxes = refl;
+      out = refl;
+      cells = refl;
+      stopped = refl;
+      table = refl;
+      from = refl;
+      private = refl;
+      comp = refl;
+      made = refl;
+    })
 release-leaves t x run kind due = absurd kind
 
 pub end-leaves : (t : Trace) (x : Step) → IsRun t → IsEnd x → IsDue t x → LeavesTheRest t (with_step t x)
 end-leaves t (Step.End c) run kind due =
-    leaves-step t (Step.End c) run tt due (record { count = refl; boxes = refl; out = refl; cells = refl; stopped = refl; comp = refl; made = refl })
+    leaves-step t (Step.End c) run tt due (record {
+      count = refl;
+      present = refl;
+      global = refl;
+      boxes = refl;
+      out = refl;
+      cells = refl;
+      stopped = refl;
+      table = refl;
+      from = refl;
+      private = refl;
+      comp = refl;
+      made = refl;
+    })
 end-leaves t x run kind due = absurd kind
 
 steps-leave : (Kind : Step → Type 0) → ((t : Trace) (x : Step) → IsRun t → Kind x → IsDue t x → LeavesTheRest t (with_step t x))
