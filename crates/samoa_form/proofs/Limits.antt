@@ -19,7 +19,7 @@ use Rattle.samoa_grammar.specs.declared.fault.WalkFault.TheVariants.{Missing, Wr
 use Rattle.samoa_grammar.specs.declared.draft.Form.{Form}
 use Rattle.samoa_grammar.specs.declared.draft.Form.TheVariants as forms
 use Rattle.samoa_grammar.specs.Tree.{part, is_list, list_of, is_number, number_of, is_text, text_of}
-use Rattle.samoa_grammar.specs.Names.{is_name, is_handler_name}
+use Rattle.samoa_grammar.specs.Names.{is_name, is_handler_text, IsHandlerText, is_handler_name}
 use Rattle.samoa_grammar.specs.Instrs.{is_instr, instr_of}
 use Rattle.samoa_grammar.specs.Walks.{◌then◌, first_along}
 use Rattle.samoa_grammar.specs.Tests.{object_fault, required, optional, form_test, number_fault, number_from_fault, name_fault, is_list_of, within_fault, items_fault, list_fault}
@@ -101,6 +101,9 @@ All-items P passes meaning each [] h = All-nil P
 All-items P passes meaning each (d ∷ ds) h =
     let parts = and_parts (passes d) (list_all passes ds) h in
     All-cons P (meaning d) (map meaning ds) (each d parts.0) (All-items P passes meaning each ds parts.1)
+
+handler_texts : (ds : List Data) → list_all is_handler_name ds ≡ true → All IsHandlerText (map text_of ds)
+handler_texts ds h = All-items IsHandlerText is_handler_name text_of (λ d passes. (and_parts (is_text d) (is_handler_text (text_of d)) passes).1) ds h
 
 named : (key : List ℕ) (d : Data) → required key name_fault d ≡ None → IsScriptName (text_of (part key d))
 named key d h =
@@ -311,7 +314,8 @@ event_limits list d h =
     (required (codes "decl") name_fault d)
     (required (codes "handlers") (items_fault 0 4 is_handler_name) d)
     h in
-    record { name = named (codes "name") d parts.1; handlers = rw length-map (required_items 0 4 is_handler_name (codes "handlers") d parts.3).few }
+    let items = required_items 0 4 is_handler_name (codes "handlers") d parts.3 in
+    record { name = named (codes "name") d parts.1; handlers = rw length-map items.few; formed = handler_texts (list_of (part (codes "handlers") d)) items.each }
 
 table_limits : (list : List ℕ) (d : Data) → table_fault list d ≡ None → HasTableLimits (table_of d)
 unfolding table_fault table_of
@@ -321,7 +325,8 @@ table_limits list d h =
     (required (codes "event") name_fault d)
     (required (codes "handlers") (items_fault 0 4 is_handler_name) d)
     h in
-    rw length-map (required_items 0 4 is_handler_name (codes "handlers") d parts.2).few
+    let items = required_items 0 4 is_handler_name (codes "handlers") d parts.2 in
+    record { handlers = rw length-map items.few; formed = handler_texts (list_of (part (codes "handlers") d)) items.each }
 
 change_limits : (list : List ℕ) (d : Data) → change_fault list d ≡ None → HasChangeLimits (change_of d)
 unfolding change_fault change_of

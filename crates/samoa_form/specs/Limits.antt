@@ -5,6 +5,7 @@ use Rattle.std.specs.List.{All}
 use Rattle.samoa_model.specs.declared.script.CodeDef.{CodeDef}
 use Rattle.samoa_model.specs.NameRule.{IsScriptName}
 use Rattle.samoa_model.specs.Range.{HasHandlers, IsCode}
+use Rattle.samoa_grammar.specs.Names.{IsHandlerText}
 use Rattle.samoa_grammar.specs.declared.draft.MicroDraft.{MicroDraft}
 use Rattle.samoa_grammar.specs.declared.draft.BoundDraft.{BoundDraft}
 use Rattle.samoa_grammar.specs.declared.draft.BodyDraft.{BodyDraft}
@@ -43,9 +44,11 @@ pub record HasDeclLimits (d : DeclDraft) : Type 0 where
 pub record HasEventLimits (e : EventDraft) : Type 0 where
   pub name : IsScriptName e.name
   pub handlers : length e.handlers ≤ 4
+  pub formed : All IsHandlerText e.handlers
 
-abbrev pub HasTableLimits : TableDraft → Type 0
-HasTableLimits t = length t.handlers ≤ 4
+pub record HasTableLimits (t : TableDraft) : Type 0 where
+  pub handlers : length t.handlers ≤ 4
+  pub formed : All IsHandlerText t.handlers
 
 pub record HasChangeLimits (c : ChangeDraft) : Type 0 where
   pub name : IsScriptName c.name

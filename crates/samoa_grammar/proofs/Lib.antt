@@ -1,2 +1,4 @@
+pub mod Apart
+pub mod Dedup
 pub mod Instrs
 pub mod Reference

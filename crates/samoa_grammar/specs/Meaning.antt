@@ -1,5 +1,5 @@
 -- What a script means whose names are all defined: each name becomes the number of what it names.
-use Rattle.std.specs.Prelude.{ℕ, Bool, ◌&&◌, ◌==◌, List, [], ◌∷◌, ◌++◌, map, bytes_eq, get_or, Option, Some, None, option_map, option_and_then, unwrap_or, if◌then◌else◌}
+use Rattle.std.specs.Prelude.{ℕ, Bool, ◌&&◌, ◌==◌, List, [], ◌∷◌, ◌++◌, map, bytes_eq, get_or, Option, option_map, option_and_then, unwrap_or, if◌then◌else◌}
 use Rattle.std.specs.List.{list_any, flat_map, position}
 use Rattle.samoa_model.specs.declared.ids.EventId.{EventId}
 use Rattle.samoa_model.specs.declared.ids.ChangeId.{ChangeId}
@@ -20,6 +20,7 @@ use Rattle.samoa_model.specs.declared.script.CrashDef.{CrashDef}
 use Rattle.samoa_model.specs.declared.script.Script.{Script}
 use Rattle.samoa_model.specs.Allowed.{same_handler, no_handler}
 use Rattle.samoa_model.specs.Handlers.{handlers_of_kind}
+use Rattle.samoa_model.specs.Routes.{once}
 use Rattle.samoa_grammar.specs.Names.{micro_part, handler_part}
 use Rattle.samoa_grammar.specs.declared.draft.MicroDraft.{MicroDraft}
 use Rattle.samoa_grammar.specs.declared.draft.BoundDraft.{BoundDraft}
@@ -61,14 +62,6 @@ abbrev pub handler_of : List MicroDraft → List ℕ → HandlerId
 handler_of micros name = unwrap_or (handler_in micros name) no_handler
 
 -- ---- routes
-
--- each handler once, in first-seen order, but for those seen before
-abbrev pub once_after : List HandlerId → List HandlerId → List HandlerId
-once_after before [] = []
-once_after before (h ∷ hs) = if list_any (same_handler h) before then once_after before hs else h ∷ once_after (before ++ h ∷ []) hs
-
-abbrev pub once : List HandlerId → List HandlerId
-once hs = once_after [] hs
 
 -- the handlers of a route: its roots, and then the ends of its edges
 abbrev pub vertices_of : List MicroDraft → List (List ℕ) → List EdgeDraft → List HandlerId

@@ -67,10 +67,15 @@ pub record Settles (before after : Trace) : Type 0 where
 -- what releases and ends leave as it was: all but local versions and what has ended
 pub record IsUnmoved (before after : Core) : Type 0 where
   pub count : after.count ≡ before.count
+  pub present : after.present ≡ before.present
+  pub global : after.global ≡ before.global
   pub boxes : after.boxes ≡ before.boxes
   pub out : after.out ≡ before.out
   pub cells : after.cells ≡ before.cells
   pub stopped : after.stopped ≡ before.stopped
+  pub table : after.table ≡ before.table
+  pub from : after.from ≡ before.from
+  pub private : after.private ≡ before.private
   pub comp : after.comp ≡ before.comp
   pub made : after.made ≡ before.made
 

@@ -16,8 +16,9 @@ use Rattle.samoa_invariant.specs.Slots.{At, put_at}
 use Rattle.samoa_invariant.specs.Play.{Play, turns, weight_at, is_bound, ends_call, IsIdle}
 
 -- the core: how many were admitted; the present tables by node; by slot the global and local versions, the boxes and
--- to whom they are out; the cells held; whether a step was abandoned; and by computation its table, the
--- interval of versions that it holds at each slot, from one up to below the private one, its calls, how many of its handler steps were made, and whether it has ended
+-- to whom they are out; the cells held; whether a step was abandoned; and by computation its table, the interval of
+-- versions that it holds at each slot, from one up to below the private one, its calls, how many of its handler steps
+-- were made, and whether it has ended
 pub record Core : Type 0 where
   pub count : ℕ
   pub present : ℕ → Table

@@ -7,7 +7,6 @@ ghost use Rattle.samoa_serial.specs.SerialRun.{serial};
 ghost use Rattle.samoa_invariant.specs.Play.{Agree, Never, Play, attempts, is_bound, stood};
 ghost use Rattle.samoa_invariant.specs.Within.{IsWithin};
 ghost use Rattle.samoa_invariant.specs.State.{AllEnded, CanRelease, Core, GoesOnTo, IsEnabled, IsForward, NothingOut, Reached, Step, WholeRun, cells_to, left, made_by};
-ghost use Rattle.samoa_invariant.specs.Parts.{SixParts};
 ghost use Rattle.samoa_invariant.specs.Inv.{AnswersSerially, HasSerialAnswer, Invariant, Meets, PlaysScript};
 
 /// Every declaration, of any form, meets what the core asks of it.
@@ -32,11 +31,6 @@ pub fn what_is_handed_on_stays_so()
 pub fn each_step_keeps_the_invariant()
     ensures kept { (play : Play) (core : Core) (step : Step) → Invariant play core → IsEnabled play core step → Invariant play (made_by play core step) }
     ensures reached { (play : Play) (core : Core) → Reached play core → Invariant play core }
-{}
-
-/// What the invariant says, in the words of the versions, the steps and the boxes.
-pub fn the_six_parts_hold()
-    ensures parts { (play : Play) (core : Core) → Reached play core → SixParts play core }
 {}
 
 /// A computation that has ended has the entries and the ending of its event run whole, alone, in its place, also while others are open.

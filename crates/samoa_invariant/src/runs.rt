@@ -9,7 +9,7 @@ ghost use Rattle.samoa_model.specs.Range.{IsInRange};
 ghost use Rattle.samoa_model.specs.Scripts.{decl_of};
 ghost use Rattle.samoa_invariant.specs.Play.{Play, turns};
 ghost use Rattle.samoa_invariant.specs.Inv.{Invariant};
-ghost use Rattle.samoa_invariant.specs.Parts.{SixParts};
+ghost use Rattle.samoa_invariant.specs.Parts.{StandsSerially};
 ghost use Rattle.samoa_invariant.specs.Picking.{BringsBack, GoesOnItself, IsEnterOf, IsFirstToEnter, IsLeastUnended, IsOutTo, IsPick, NoEnterIsDue, StaysOut};
 ghost use Rattle.samoa_invariant.specs.Settling.{EndsAll, LeavesTheRest, ReleasesAll, Settles, with_steps};
 ghost use Rattle.samoa_invariant.specs.State.{AllEnded, Core, IsSettled, NothingOut, Reached, admit, left, named};
@@ -27,11 +27,12 @@ pub fn runs_grow()
     ensures ext_state { (t : Trace) (ext : Ext) → IsRun t → state (with_ext t ext) ≡ state t }
 {}
 
-/// Whatever the order of its steps, a run keeps the invariant.
+/// Whatever the order of its steps, a run keeps the invariant; `parts` says it in the words of the versions, the handler
+/// steps and the boxes.
 pub fn runs_keep_the_invariant()
     ensures reached { (t : Trace) → IsRun t → Reached (play t) (state t) }
     ensures kept { (t : Trace) → IsRun t → Invariant (play t) (state t) }
-    ensures parts { (t : Trace) → IsRun t → SixParts (play t) (state t) }
+    ensures parts { (t : Trace) → IsRun t → StandsSerially (play t) (state t) }
     ensures admitted { (t : Trace) → IsRun t → (state t).count ≤ length t.exts }
     ensures few { (t : Trace) → IsRun t → (state t).count ≤ 100000 }
 {}

@@ -5,5 +5,7 @@ pub mod Handlers
 pub mod NameRule
 pub mod Paths
 pub mod Range
+pub mod Routes
 pub mod Scripts
+pub mod Valid
 pub mod WordsLaws

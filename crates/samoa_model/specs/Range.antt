@@ -1,5 +1,5 @@
 -- Scripts whose numbers name what is there, and whose lists keep to their limits.
-use Rattle.std.specs.Prelude.{◌≡◌, ◌<◌, ◌≤◌, ◌*◌, ℕ, List, [], length, map}
+use Rattle.std.specs.Prelude.{◌≡◌, ◌<◌, ◌≤◌, ℕ, List, [], length, map}
 use Rattle.std.specs.List.{All, AllPairs}
 use Rattle.samoa_model.specs.declared.ids.EventId.{EventId}
 use Rattle.samoa_model.specs.declared.ids.ChangeId.{ChangeId}
@@ -92,7 +92,7 @@ ports_needed Seqcast = 2
 ports_needed Repl = 2
 ports_needed Views = 1
 
--- scripted handlers belong to the scripted kind, which has at least one
+-- handlers of the script belong to the scripted kind alone, which has at least one
 abbrev pub HasHandlers : Kind → List CodeDef → Type 0
 HasHandlers Prog handlers = 1 ≤ length handlers
 HasHandlers _ handlers = handlers ≡ []

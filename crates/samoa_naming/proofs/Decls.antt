@@ -17,7 +17,8 @@ use Rattle.samoa_grammar.specs.declared.draft.BodyDraft.TheVariants as bodies
 use Rattle.samoa_grammar.specs.declared.draft.DeclDraft.{DeclDraft}
 use Rattle.samoa_grammar.specs.declared.draft.Draft.{Draft}
 use Rattle.samoa_grammar.specs.Walks.{◌then◌, first_along}
-use Rattle.samoa_grammar.specs.Meaning.{number_in_names, micros_named, no_micro_draft, handler_names, handler_of, once, edges_after, vertices_of, vertex_of, edge_numbers, micro_meant, body_meant, decl_meant, script_of}
+use Rattle.samoa_model.specs.Routes.{once}
+use Rattle.samoa_grammar.specs.Meaning.{number_in_names, micros_named, no_micro_draft, handler_names, handler_of, edges_after, vertices_of, vertex_of, edge_numbers, micro_meant, body_meant, decl_meant, script_of}
 use Rattle.samoa_grammar.specs.Passes.{twice, body_twice, among, micro_names, handler_unknown, body_unknown, vertices_fault, twice_fault, unknown_fault, totals_fault}
 use Rattle.samoa_form.specs.Limits.{HasBodyLimits, HasDeclLimits, HasLimits}
 use Rattle.samoa_naming.specs.Routes.{ends_of}
@@ -63,7 +64,7 @@ micro_known : (x : Draft) (name : List ℕ) → handler_unknown x.micros name �
 unfolding script_of
 micro_known x name h = subst (λ n. (handler_of x.micros name).micro.0 < n) (sym (length-map x.micros (micro_meant x))) (handler_below x.micros name h)
 
-names_kept : (x : Draft) (ms : List MicroDraft) (p : ℕ) → names_of_handlers (get_or (map (micro_meant x) ms) p no_micro) ≡ handler_names (get_or ms p no_micro_draft)
+pub names_kept : (x : Draft) (ms : List MicroDraft) (p : ℕ) → names_of_handlers (get_or (map (micro_meant x) ms) p no_micro) ≡ handler_names (get_or ms p no_micro_draft)
 unfolding micro_meant
 names_kept x [] p = refl
 names_kept x (m ∷ ms) zero = refl

@@ -85,7 +85,7 @@ row_parts : (x : Draft) (t : TableDraft) → HasTableLimits t → table_unknown 
 unfolding table_meant
 row_parts x t few h =
     let parts = then_none (among (event_names x) t.event) (first_along (handler_unknown x.micros) t.handlers) h in
-    (event_in x t.event parts.0, bindable x t.handlers few parts.1)
+    (event_in x t.event parts.0, bindable x t.handlers few.handlers parts.1)
 
 change_in_range : (x : Draft) (c : ChangeDraft) → HasChangeLimits c → change_unknown x c ≡ None → IsChangeInRange (script_of x) (change_meant x c)
 unfolding change_meant

@@ -18,9 +18,9 @@ use Rattle.samoa_grammar.specs.declared.draft.Draft.{Draft}
 use Rattle.samoa_grammar.specs.Meaning.{event_named, change_named, micro_meant, loss_meant, crash_meant, script_of}
 use Rattle.samoa_grammar.specs.Passes.{is_instr_of, instr_fault, ports_fault, loss_total, totals_fault}
 use Rattle.samoa_naming.specs.Groups.{handler_outside, micro_outside, kinds_over, kind_over}
-use Rattle.samoa_naming.specs.Sound.{HasFewOfEach}
+use Rattle.samoa_model.specs.Valid.{HasFewOfEach}
 use Rattle.samoa_naming.proofs.Groups.{kinds_by_kind}
-use Rattle.samoa_naming.proofs.Passed.{along_all, parts_9, ports_there, codes_inside, losses_inside, crashes_inside, kinds_few}
+use Rattle.samoa_naming.proofs.Passed.{along_all, parts_9, codes_inside, losses_inside, crashes_inside, kinds_few}
 use Rattle.samoa_naming.proofs.Sizes.{when_passes, when_fails, node_below, loss_below}
 
 -- ---- positions

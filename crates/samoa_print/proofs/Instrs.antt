@@ -1,18 +1,45 @@
 -- The canonical tree of an instruction is that instruction again.
-use Rattle.std.proofs.Common.{◌≡◌, ℕ, zero, suc, ◌-◌, ◌^◌, Bool, true, false, List, [], ◌∷◌, Option, Some, None, refl, ap, ap₂, ◌∙◌, arith, cond}
-use Rattle.std.specs.Prelude.{◌&&◌, ◌==◌, min, unwrap_or, nat_le, nat_lt, option_and_then, option_map, is_some, codes, bytes_eq}
-use Rattle.std.proofs.lemmas.Bool.{and_parts, and_from}
+use Rattle.std.proofs.Common.{◌≡◌, ℕ, zero, suc, ◌-◌, ◌^◌, Bool, true, Some, None, refl, ap, ap₂, ◌∙◌, arith, cond}
+use Rattle.std.specs.Prelude.{◌&&◌, min, unwrap_or, nat_le, nat_lt, option_and_then, option_map, is_some}
+use Rattle.std.proofs.lemmas.Bool.{and_parts}
 use Rattle.std.proofs.lemmas.Bool.Decides.{nat_tests}
-use Rattle.serde_json.specs.Data.{Data}
-use Rattle.serde_json.specs.Find.{as_str}
 use Rattle.samoa_model.specs.declared.setup.Place.{Place}
 use Rattle.samoa_model.specs.declared.setup.Place.TheVariants.{Reg, Local}
 use Rattle.samoa_model.specs.declared.setup.Instr.{Instr}
 use Rattle.samoa_model.specs.declared.setup.Instr.TheVariants as instr
-use Rattle.samoa_grammar.specs.Tree.{list_of, number_in}
-use Rattle.samoa_grammar.specs.Instrs.{place_at, place_named, place_in, number_between, count_in, skip_in, position_in, after_one, of_places, of_position, after_two, after_three, after_word, instr_among, instr_in, is_instr, instr_of}
-use Rattle.samoa_grammar.proofs.Instrs.{is_place, is_count, is_skip, is_position, IsProper}
+use Rattle.samoa_grammar.specs.Instrs.{place_in, count_in, skip_in, position_in, of_places, of_position, instr_in, is_instr, instr_of}
 use Rattle.samoa_print.specs.Canonical.{number_tree, place_tree, instr_tree}
+
+-- ---- instructions whose numbers keep to their limits
+
+abbrev pub is_place : Place → Bool
+is_place (Reg n) = nat_lt n 4
+is_place (Local n) = nat_lt n 4
+
+abbrev pub is_count : ℕ → Bool
+is_count k = nat_le 0 k && nat_le k 4
+
+abbrev pub is_skip : ℕ → Bool
+is_skip j = nat_le 1 j && nat_le j 31
+
+abbrev pub is_position : ℕ → Bool
+is_position port = nat_le port (2 ^ 32 - 1)
+
+abbrev pub is_proper : Instr → Bool
+is_proper (instr.Set d n) = is_place d
+is_proper (instr.Copy d s) = is_place d && is_place s
+is_proper (instr.Add d s) = is_place d && is_place s
+is_proper (instr.Sub d s) = is_place d && is_place s
+is_proper (instr.Less s t j) = is_place s && (is_place t && is_skip j)
+is_proper (instr.Call port k) = is_position port && is_count k
+is_proper (instr.Later port k) = is_position port && is_count k
+is_proper (instr.Send s port k) = is_place s && (is_position port && is_count k)
+is_proper (instr.Deliver k) = is_count k
+is_proper (instr.Change c k) = is_position c && is_count k
+is_proper (instr.Done k) = is_count k
+
+abbrev pub IsProper : Instr → Type 0
+IsProper i = is_proper i ≡ true
 
 -- ---- the canonical tree of an instruction
 

@@ -1,12 +1,13 @@
 //! Bytes to a script.
-ghost use Rattle.std.specs.Prelude.{◌≡◌, ◌⊎◌, ℕ, List, IfOk, IfErr};
+ghost use Rattle.std.specs.Prelude.{◌≡◌, ◌⊎◌, ◌↔◌, ℕ, List, IfOk, IfErr};
 ghost use Rattle.serde_json.specs.View.{view};
 ghost use Rattle.samoa_model.specs.declared.script.Script.{Script as ScriptValue};
 ghost use Rattle.samoa_model.specs.Range.{IsInRange};
 ghost use Rattle.samoa_grammar.specs.Held.{walk_fault, script_meant, Holds};
 ghost use Rattle.samoa_form.specs.Reads.{Reads};
-ghost use Rattle.samoa_naming.specs.Sound.{HasFewOfEach};
+ghost use Rattle.samoa_model.specs.Valid.{IsValid};
 ghost use Rattle.samoa_script.specs.declared.fault.ScriptFault.{ScriptFault as FaultValue};
+ghost use Rattle.samoa_script.specs.Meant.{IsMeant};
 ghost use Rattle.samoa_script.specs.Fails.{Fails, HasScript, HasFault};
 
 use crate::fault::{ScriptFault, fault_of};
@@ -63,10 +64,10 @@ pub fn some_answer()
     ensures { (bytes : List ℕ) → HasScript bytes ⊎ HasFault bytes }
 {}
 
-/// What a script keeps to that bytes hold: it is in range, and of each kind the nodes together have at most 32
-/// microprotocols. In range means that each number names something of the script, handlers and the positions of
-/// instructions included, and that each list keeps to its limit.
-pub fn whole_limits()
-    ensures in_range { (bytes : List ℕ) (script : ScriptValue) → Holds bytes script → IsInRange script }
-    ensures kinds { (bytes : List ℕ) (script : ScriptValue) → Holds bytes script → HasFewOfEach script }
+/// The valid scripts are those that texts hold. A script is valid exactly where some tree means it that passes the walk,
+/// and then its canonical tree is one. So each script that bytes hold is valid: it is in range, its names have their form
+/// and stand once, and what a route, a list of handlers or a table has stands there once.
+pub fn valid_scripts_are_those_that_texts_hold()
+    ensures meant { (script : ScriptValue) → IsValid script ↔ IsMeant script }
+    ensures held { (bytes : List ℕ) (script : ScriptValue) → Holds bytes script → IsValid script }
 {}

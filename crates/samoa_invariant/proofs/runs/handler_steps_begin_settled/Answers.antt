@@ -1,4 +1,4 @@
-use Rattle.samoa_invariant.proofs.Releasing.{abandon-settled, enter-settled}
+use Rattle.samoa_invariant.proofs.settling.Releasing.{abandon-settled, enter-settled}
 use Rattle.samoa_invariant.proofs.runs.handler_steps_begin_settled.Goals as goal
 
 pub returns : goal.returns

@@ -1,4 +1,4 @@
-use Rattle.samoa_invariant.proofs.Releasing.{ends-leave, releases-leave, settles-leave, settles-settled}
+use Rattle.samoa_invariant.proofs.settling.Releasing.{ends-leave, releases-leave, settles-leave, settles-settled}
 use Rattle.samoa_invariant.proofs.runs.settling_settles.Goals as goal
 
 pub returns : goal.returns

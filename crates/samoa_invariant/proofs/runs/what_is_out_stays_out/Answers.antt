@@ -1,4 +1,4 @@
-use Rattle.samoa_invariant.proofs.Standing.{enters_once, stays_out}
+use Rattle.samoa_invariant.proofs.representation.Standing.{enters_once, stays_out}
 use Rattle.samoa_invariant.proofs.runs.what_is_out_stays_out.Goals as goal
 
 pub returns : goal.returns
