@@ -1,9 +1,10 @@
 -- Lists in which each item stands once.
-use Rattle.std.proofs.Common.{◌≡◌, ℕ, suc, ◌+◌, ◌<◌, Bool, true, false, List, [], ◌∷◌, ◌++◌, length, get_or, Some, None, refl, sym, ap, ap₂, ◌∙◌, subst, cond, arith}
+use Rattle.std.proofs.Common.{◌≡◌, ℕ, suc, ◌+◌, ◌<◌, ◌≤◌, Bool, true, false, List, [], ◌∷◌, ◌++◌, length, get_or, Some, None, refl, sym, ap, ap₂, ◌∙◌, subst, cond, arith}
 use Rattle.std.specs.Prelude.{◌||◌, ◌==◌, not, nat_lt, unwrap_or, bytes_eq}
-use Rattle.std.specs.List.{list_any, flat_map, position, position_or_len}
+use Rattle.std.specs.List.{All, list_any, flat_map, position, position_or_len}
 use Rattle.std.proofs.lemmas.Bool.Decides.{nat_tests}
 use Rattle.std.proofs.lemmas.List.{append_assoc, append-nil}
+use Rattle.std.proofs.lemmas.List.Elements.{All-nil, All-cons, All-head, All-tail}
 use Rattle.std.proofs.lemmas.List.Folds.{list_any-append}
 use Rattle.std.proofs.lemmas.List.Quantifiers.{position-Some}
 use Rattle.std.proofs.lemmas.Bool.{and_parts, and_from}
@@ -154,6 +155,26 @@ front_once same laws hs ts =
     dedup_append same laws [] (dedup same [] hs) ts
     ∙ ap₂ (λ u v. u ++ v) (dedup_again same [] hs) (dedup_same same (dedup same [] hs) hs (dedup_kept same laws [] hs) ts)
     ∙ sym (dedup_append same laws [] hs ts)
+
+-- what each item is, each that is kept is
+all_step : {X : Type 0} (P : X → Type 0) (k : Bool) (x : X) (us vs : List X) → P x → All P us → All P vs → All P (cond k us (x ∷ vs))
+all_step P true x us vs p u v = u
+all_step P false x us vs p u v = All-cons P x vs p v
+
+pub dedup_all : {X : Type 0} (P : X → Type 0) (same : X → X → Bool) (b xs : List X) → All P xs → All P (dedup same b xs)
+dedup_all P same b [] each = All-nil P
+dedup_all P same b (x ∷ xs) each =
+    let rest = All-tail P x xs each in
+    all_step P (list_any (same x) b) x (dedup same b xs) (dedup same (b ++ x ∷ []) xs) (All-head P x xs each) (dedup_all P same b xs rest) (dedup_all P same (b ++ x ∷ []) xs rest)
+
+length_step : {X : Type 0} (k : Bool) (x : X) (us vs : List X) (n : ℕ) → length us ≤ n → length vs ≤ n → length (cond k us (x ∷ vs)) ≤ suc n
+length_step true x us vs n u v = omega arith
+length_step false x us vs n u v = omega arith
+
+pub length_dedup : {X : Type 0} (same : X → X → Bool) (b xs : List X) → length (dedup same b xs) ≤ length xs
+length_dedup same b [] = omega arith
+length_dedup same b (x ∷ xs) =
+    length_step (list_any (same x) b) x (dedup same b xs) (dedup same (b ++ x ∷ []) xs) (length xs) (length_dedup same b xs) (length_dedup same (b ++ x ∷ []) xs)
 
 -- ---- the ends of edges that lost their repeats
 

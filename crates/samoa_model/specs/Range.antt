@@ -92,7 +92,7 @@ ports_needed Seqcast = 2
 ports_needed Repl = 2
 ports_needed Views = 1
 
--- scripted handlers belong to the scripted kind, which has at least one
+-- handlers of the script belong to the scripted kind alone, which has at least one
 abbrev pub HasHandlers : Kind → List CodeDef → Type 0
 HasHandlers Prog handlers = 1 ≤ length handlers
 HasHandlers _ handlers = handlers ≡ []

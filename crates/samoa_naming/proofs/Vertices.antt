@@ -1,5 +1,5 @@
 -- The roots and the ends of a route's edges are among its vertices.
-use Rattle.std.proofs.Common.{◌≡◌, ℕ, ◌<◌, ◌≤◌, arith, Bool, true, false, cond, List, [], ◌∷◌, ◌++◌, length, refl, sym, ap, ◌∙◌, subst}
+use Rattle.std.proofs.Common.{◌≡◌, ℕ, ◌<◌, ◌≤◌, Bool, true, false, List, [], ◌∷◌, ◌++◌, length, refl, sym, ap, ◌∙◌, subst}
 use Rattle.std.specs.Prelude.{◌||◌, unwrap_or}
 use Rattle.std.specs.List.{All, list_any, flat_map}
 use Rattle.std.proofs.lemmas.List.Elements.{All-nil, All-cons, All-head, All-tail}
@@ -8,97 +8,30 @@ use Rattle.samoa_model.specs.declared.ids.HandlerId.{HandlerId}
 use Rattle.samoa_model.specs.Allowed.{same_handler}
 use Rattle.samoa_grammar.specs.declared.draft.MicroDraft.{MicroDraft}
 use Rattle.samoa_grammar.specs.declared.draft.EdgeDraft.{EdgeDraft}
-use Rattle.samoa_model.specs.Routes.{once_after, once}
+use Rattle.samoa_model.specs.Routes.{once}
 use Rattle.samoa_grammar.specs.Meaning.{same_edge, edges_after, vertex_of, handler_of}
 use Rattle.samoa_naming.specs.Routes.{ends_of}
-use Rattle.samoa_grammar.proofs.Dedup.{same_handlers, place_below, position_found}
+use Rattle.samoa_grammar.proofs.Dedup.{same_handlers, place_below, position_found, once_is, edges_is, dedup_all, dedup_kept, length_dedup}
 
 abbrev has : List HandlerId → HandlerId → Bool
 has hs h = list_any (same_handler h) hs
 
--- ---- what each of a list is, each of the list of its first ones is
-
-all_if : {X : Type 0} (P : X → Type 0) (b : Bool) (skipped kept : List X) → All P skipped → All P kept → All P (cond b skipped kept)
-all_if P true skipped kept p q = p
-all_if P false skipped kept p q = q
-
-once_after_all : (P : HandlerId → Type 0) (hs before : List HandlerId) → All P hs → All P (once_after before hs)
-once_after_all P [] before each = All-nil P
-once_after_all P (h ∷ hs) before each =
-    let rest = All-tail P h hs each in
-    all_if P (has before h) (once_after before hs) (h ∷ once_after (before ++ h ∷ []) hs) (once_after_all P hs before rest)
-    (All-cons P h (once_after (before ++ h ∷ []) hs) (All-head P h hs each) (once_after_all P hs (before ++ h ∷ []) rest))
+-- ---- the list of the first ones
 
 pub once_all : (P : HandlerId → Type 0) (hs : List HandlerId) → All P hs → All P (once hs)
-once_all P hs each = once_after_all P hs [] each
-
-edges_after_all : (P : (ℕ × ℕ) → Type 0) (es before : List (ℕ × ℕ)) → All P es → All P (edges_after before es)
-edges_after_all P [] before each = All-nil P
-edges_after_all P (e ∷ es) before each =
-    let rest = All-tail P e es each in
-    all_if P (list_any (same_edge e) before) (edges_after before es) (e ∷ edges_after (before ++ e ∷ []) es) (edges_after_all P es before rest)
-    (All-cons P e (edges_after (before ++ e ∷ []) es) (All-head P e es each) (edges_after_all P es (before ++ e ∷ []) rest))
+once_all P hs each = subst (All P) (sym (once_is [] hs)) (dedup_all P same_handler [] hs each)
 
 pub edges_all : (P : (ℕ × ℕ) → Type 0) (es : List (ℕ × ℕ)) → All P es → All P (edges_after [] es)
-edges_all P es each = edges_after_all P es [] each
-
--- ---- there are no more of the first ones
-
-few_if : {X : Type 0} (b : Bool) (skipped kept : List X) (n : ℕ) → length skipped ≤ n → length kept ≤ n → length (cond b skipped kept) ≤ n
-few_if true skipped kept n p q = p
-few_if false skipped kept n p q = q
-
-once_after_few : (hs before : List HandlerId) → length (once_after before hs) ≤ length hs
-once_after_few [] before = omega arith
-once_after_few (h ∷ hs) before =
-    let skipped = once_after_few hs before in
-    let kept = once_after_few hs (before ++ h ∷ []) in
-    few_if (has before h) (once_after before hs) (h ∷ once_after (before ++ h ∷ []) hs) (length (h ∷ hs)) (omega arith) (omega arith)
+edges_all P es each = subst (All P) (sym (edges_is [] es)) (dedup_all P same_edge [] es each)
 
 pub once_few : (hs : List HandlerId) → length (once hs) ≤ length hs
-once_few hs = once_after_few hs []
-
-edges_after_few : (es before : List (ℕ × ℕ)) → length (edges_after before es) ≤ length es
-edges_after_few [] before = omega arith
-edges_after_few (e ∷ es) before =
-    let skipped = edges_after_few es before in
-    let kept = edges_after_few es (before ++ e ∷ []) in
-    few_if (list_any (same_edge e) before) (edges_after before es) (e ∷ edges_after (before ++ e ∷ []) es) (length (e ∷ es)) (omega arith) (omega arith)
+once_few hs = subst (λ l. length l ≤ length hs) (sym (once_is [] hs)) (length_dedup same_handler [] hs)
 
 pub edges_few : (es : List (ℕ × ℕ)) → length (edges_after [] es) ≤ length es
-edges_few es = edges_after_few es []
-
--- ---- the first ones have each of the list
-
-joined_or : (a e r : Bool) → (a || (e || r)) ≡ ((a || (e || false)) || r)
-joined_or true e r = refl
-joined_or false true r = refl
-joined_or false false r = refl
-
-more_has : (before : List HandlerId) (g h : HandlerId) (r : Bool) → (has (before ++ g ∷ []) h || r) ≡ (has before h || (same_handler h g || r))
-more_has before g h r =
-    ap (λ b. b || r) (list_any-append (same_handler h) before (g ∷ [])) ∙ sym (joined_or (has before h) (same_handler h g) r)
-
--- an item that is skipped stands before
-skipped_has : (e a r : Bool) → (a || (e || r)) ≡ true → (e ≡ true → a ≡ true) → (a || r) ≡ true
-skipped_has true a r some seen = ap (λ b. b || r) (seen refl)
-skipped_has false a r some seen = some
-
-step_has : (b : Bool) (before skipped kept : List HandlerId) (g h : HandlerId) → (b ≡ true → (has before h || has skipped h) ≡ true) → (has before h || (same_handler h g || has kept h)) ≡ true
-    → (has before h || has (cond b skipped (g ∷ kept)) h) ≡ true
-step_has true before skipped kept g h p q = p refl
-step_has false before skipped kept g h p q = q
-
-once_after_has : (hs before : List HandlerId) (h : HandlerId) → (has before h || has hs h) ≡ true → (has before h || has (once_after before hs) h) ≡ true
-once_after_has [] before h some = some
-once_after_has (g ∷ hs) before h some =
-    let later = once_after_has hs (before ++ g ∷ []) h (more_has before g h (has hs h) ∙ some) in
-    step_has (has before g) before (once_after before hs) (once_after (before ++ g ∷ []) hs) g h
-    (λ seen. once_after_has hs before h (skipped_has (same_handler h g) (has before h) (has hs h) some (λ e. ap (has before) (same_handlers.equal h g e) ∙ seen)))
-    (sym (more_has before g h (has (once_after (before ++ g ∷ []) hs) h)) ∙ later)
+edges_few es = subst (λ l. length l ≤ length es) (sym (edges_is [] es)) (length_dedup same_edge [] es)
 
 once_has : (hs : List HandlerId) (h : HandlerId) → has hs h ≡ true → has (once hs) h ≡ true
-once_has hs h some = once_after_has hs [] h some
+once_has hs h some = ap (list_any (same_handler h)) (once_is [] hs) ∙ dedup_kept same_handler same_handlers [] hs h ∙ some
 
 or_right : (a b : Bool) → b ≡ true → (a || b) ≡ true
 or_right true b h = refl
