@@ -3,11 +3,13 @@
 
 mod admission;
 mod answers;
-mod cells;
 mod forms;
+mod grid;
+mod journal;
 mod kernel;
 mod moves;
 mod parts;
+mod running;
 mod scans;
 mod slots;
 mod turn;

@@ -1,0 +1,14 @@
+use Rattle.std.proofs.Common.{◌-◌, ◌≡◌, ◌≤◌, length}
+use Rattle.samoa_core.specs.Admission.{raised, turns_taken}
+use Rattle.samoa_core.proofs.admission.take_turns.Given as goal
+
+abbrev pub invariant-loop-micro : goal.invariant-loop-micro
+invariant-loop-micro g l = record {
+  turns : l.turns.items ≡ turns_taken l.decl.now l.micros l.node l.fn.versions.gv l.micro;
+  gv : l.versions.gv ≡ raised l.decl.now l.micros l.node l.fn.versions.gv l.micro;
+  lv : l.versions.lv ≡ l.fn.versions.lv;
+  below : l.micro ≤ l.micros;
+}
+
+abbrev pub decreases-loop-micro : goal.decreases-loop-micro
+decreases-loop-micro g l = l.micros - l.micro
