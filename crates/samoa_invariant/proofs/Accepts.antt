@@ -19,7 +19,7 @@ use Rattle.samoa_serial.specs.Calls.{Computation, take_outcome, take_outcome_at,
 use Rattle.samoa_serial.specs.Alone.{next_at, next_of, next_step}
 use Rattle.samoa_model.specs.Scripts.{resolve, Table}
 use Rattle.samoa_model.specs.Entries.{calls_at}
-use Rattle.samoa_invariant.specs.Play.{Play, table_of, point, drive, Never, IsIdle}
+use Rattle.samoa_invariant.specs.Play.{Play, table_of, point, drive, Never}
 use Rattle.samoa_invariant.proofs.Steps.{some_injective}
 use Rattle.samoa_invariant.proofs.Closed.{begun, IsClosed, closed_points}
 
@@ -164,9 +164,9 @@ meets_declared P k n c m e =
     (closed_points P k (ActiveDeclared (P.decl k)) (declared_closed (P.decl k) (table_of P k)) tt
     (λ event arg h hs is. accepted_declared (P.decl k) (table_of P k) [] None event arg h hs [] is tt) n) e
 
--- with nothing left nothing comes
-pub idle_never : (attempt : Attempts) (comp : Computation) (p : ℕ) → IsIdle comp → Never attempt comp p
-idle_never attempt comp p idle os c m e = absurd (no (drive attempt comp os).active (stays comp os idle.active) e)
+-- with no call active nothing comes
+pub idle_never : (attempt : Attempts) (comp : Computation) (p : ℕ) → comp.active ≡ [] → Never attempt comp p
+idle_never attempt comp p idle os c m e = absurd (no (drive attempt comp os).active (stays comp os idle) e)
   where
     no : (active : List Active) → active ≡ [] → next_of active ≡ Some (c, m) → ⊥
     no [] none eq = cc

@@ -1,5 +1,9 @@
 -- Each form of declaration meets what it owes: sets, bounds and routes.
-use Rattle.std.proofs.Common.{arith, ◌≡◌, ◌<◌, ◌≤◌, ℕ, suc, sym, subst, List}
+use Rattle.std.proofs.Common.{arith, ◌≡◌, ◌<◌, ◌≤◌, ℕ, suc, refl, ap, sym, subst, List, [], ◌∷◌, map}
+use Rattle.std.specs.List.{All}
+use Rattle.std.proofs.lemmas.List.Elements.{All-nil}
+use Rattle.samoa_model.specs.declared.ids.HandlerId.{HandlerId}
+use Rattle.samoa_model.specs.Paths.{IsSafe, NothingLeft, handlers_by}
 use Rattle.samoa_serial.specs.declared.call.Active.{Active}
 use Rattle.samoa_model.specs.declared.script.Decl.{Decl}
 use Rattle.samoa_serial.specs.declared.call.Waiting.{Waiting}
@@ -8,25 +12,37 @@ use Rattle.samoa_model.specs.Scripts.{Table}
 use Rattle.samoa_serial.specs.World.{attempts_of}
 use Rattle.samoa_serial.specs.Calls.{Computation}
 use Rattle.samoa_invariant.specs.Play.{Play, attempts, table_of, point, version, IsIdle, Never}
-use Rattle.samoa_invariant.specs.State.{CanRelease, Core, Step, Quiet, ActiveSafe, WaitingSafe, IsEnabled, made_by}
+use Rattle.samoa_invariant.specs.State.{CanRelease, Core, Step, Quiet, IsEnabled, made_by}
 use Rattle.samoa_invariant.specs.Inv.{Meets, Invariant}
 use Rattle.samoa_invariant.proofs.Accepts.{meets_declared, idle_never}
 use Rattle.samoa_invariant.proofs.Bounds.{meets_counting}
 use Rattle.samoa_invariant.proofs.Routes.{route_never}
 use Rattle.samoa_invariant.proofs.Steps.{step_keeps}
 
+no_active : (active : List Active) → map (λ a. a.call.handler) active ≡ [] → active ≡ []
+no_active [] none = refl
+no_active (a ∷ rest) none = cc
+
 quiet_never : (decl : Decl) (table : Table) (comp : Computation) (p : ℕ) → Quiet decl table comp p → Never (attempts_of decl table) comp p
-quiet_never (Decl.Set micros) table comp p quiet = idle_never (attempts_of (Decl.Set micros) table) comp p quiet
-quiet_never (Decl.Bound bounds) table comp p quiet = idle_never (attempts_of (Decl.Bound bounds) table) comp p quiet
+quiet_never (Decl.Set micros) table comp p quiet = idle_never (attempts_of (Decl.Set micros) table) comp p (no_active comp.active quiet.none_active)
+quiet_never (Decl.Bound bounds) table comp p quiet = idle_never (attempts_of (Decl.Bound bounds) table) comp p (no_active comp.active quiet.none_active)
 quiet_never (Decl.Route vertices roots edges) table comp p quiet = route_never vertices roots edges table comp p quiet
 
-idle_quiet : (decl : Decl) (table : Table) (comp : Computation) (p : ℕ) → IsIdle comp → Quiet decl table comp p
-idle_quiet (Decl.Set micros) table comp p idle = idle
-idle_quiet (Decl.Bound bounds) table comp p idle = idle
-idle_quiet (Decl.Route vertices roots edges) table comp p idle = record {
-  active = subst (λ (xs : List Active). ActiveSafe vertices edges p xs) (sym idle.active) tt;
-  waiting = subst (λ (xs : List Waiting). WaitingSafe vertices edges table p xs) (sym idle.waiting) tt;
+nothing_left : (table : Table) (comp : Computation) → IsIdle comp → NothingLeft (map (λ a. a.call.handler) comp.active) (handlers_by table (map (λ w. w.event) comp.waiting))
+nothing_left table comp idle = record {
+  none_active = ap (λ (xs : List Active). map (λ a. a.call.handler) xs) idle.active;
+  none_waiting = ap (λ (ws : List Waiting). handlers_by table (map (λ w. w.event) ws)) idle.waiting;
 }
+
+idle_quiet : (decl : Decl) (table : Table) (comp : Computation) (p : ℕ) → IsIdle comp → Quiet decl table comp p
+idle_quiet (Decl.Set micros) table comp p idle = nothing_left table comp idle
+idle_quiet (Decl.Bound bounds) table comp p idle = nothing_left table comp idle
+idle_quiet (Decl.Route vertices roots edges) table comp p idle =
+    let left = nothing_left table comp idle in
+    record {
+      active_away = subst (λ (hs : List HandlerId). All (IsSafe vertices edges p) hs) (sym left.none_active) (All-nil (IsSafe vertices edges p));
+      waiting_away = subst (λ (hs : List HandlerId). All (IsSafe vertices edges p) hs) (sym left.none_waiting) (All-nil (IsSafe vertices edges p));
+    }
 
 pub meets : (P : Play) (k : ℕ) → Meets P k
 meets P k = record {

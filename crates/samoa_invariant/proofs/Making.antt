@@ -10,8 +10,7 @@ use Rattle.samoa_invariant.specs.State.{CanRelease, Core, release}
 use Rattle.samoa_invariant.specs.Runs.{IsDue, IsRun, Trace, play, state, with_step}
 use Rattle.samoa_invariant.specs.Settling.{AreDue, EndsAll, EndsBefore, EndsFirst, IsEnd, IsEndBefore, IsRelease, IsReleaseBefore, IsReleaseOf, ReleasesAll, ReleasesBefore, ReleasesFirst, ReleasesOf, with_steps}
 use Rattle.samoa_invariant.proofs.Due.{due-after, due-append, pairs-append, run-with_steps, with-both, with-more, with-none}
-use Rattle.samoa_invariant.proofs.Releasing.{ended_releases, release_opens}
-use Rattle.samoa_invariant.proofs.Settles.{end_ends}
+use Rattle.samoa_invariant.proofs.Releasing.{end_ends, ended_releases, release_opens}
 use Rattle.samoa_invariant.proofs.Slots.{put_at-here}
 use Rattle.samoa_invariant.proofs.Traces.{invariant, is_run-with_step}
 use Rattle.samoa_invariant.proofs.Versions.{same_or_not}

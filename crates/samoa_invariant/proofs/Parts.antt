@@ -1,17 +1,31 @@
 -- The six parts follow from the invariant.
-use Rattle.std.proofs.Common.{arith, ◌≡◌, ◌≢◌, ℕ, zero, suc, ◌+◌, ◌≤◌, ◌<◌, ◌⊎◌, inl, inr, sym, ap, ◌∙◌, subst, Some}
+use Rattle.std.proofs.Common.{arith, ◌≡◌, ◌≢◌, ℕ, zero, suc, ◌+◌, ◌-◌, ◌≤◌, ◌<◌, ◌⊎◌, inl, inr, sym, ap, ◌∙◌, subst, [], Some}
 use Rattle.samoa_serial.specs.declared.call.Call.{Call}
 use Rattle.samoa_model.specs.declared.handler.Moment.{Moment}
 use Rattle.samoa_serial.specs.Calls.{Computation}
 use Rattle.samoa_model.specs.Allowed.{weight}
-use Rattle.samoa_invariant.specs.Play.{IsIdle, Play, done, point, version, weight_at}
+use Rattle.samoa_invariant.specs.Play.{IsIdle, Never, NotAt, Play, attempts, done, opened, point, rules, version, weight_at}
 use Rattle.samoa_invariant.specs.State.{Core, HasTurn, IsNextAt}
 use Rattle.samoa_invariant.specs.Inv.{Invariant, IsDone, IsOutRightly, Owns}
 use Rattle.samoa_invariant.specs.Parts.{OutInTurn, SixParts, StatesAreSerial, StepsAreInTurn, VersionsAreSums}
 use Rattle.samoa_invariant.proofs.Versions.{in_order, owns_declares, same_or_not, some_owner, version-own, weight_at-else}
 use Rattle.samoa_invariant.proofs.Slots.{turn_owns}
 use Rattle.samoa_invariant.proofs.Steps.{some_injective}
-use Rattle.samoa_invariant.proofs.Further.{no_more_steps}
+use Rattle.samoa_serial.specs.Alone.{Machine, after}
+use Rattle.samoa_serial.proofs.Reach.{after-add}
+use Rattle.samoa_invariant.proofs.Points.{Kept, never_kept}
+
+-- no handler step past the first made ones is at a slot whose interval is past
+no_more_steps : (P : Play) (core : Core) (k p : ℕ) → Invariant P core → k < core.count → 0 < weight (P.decl k) p → version P (suc k) (P.node k) p ≤ core.local (P.node k) p
+    → (i : ℕ) → core.made k ≤ i → NotAt (point P k i).comp p
+no_more_steps P core k p i lt w past n le =
+    let never : Never (attempts P k) (point P k (core.made k)).comp p = i.no_more k p lt w past in
+    let later : Kept (attempts P k) (point P k (core.made k)) (after (rules P k) (point P k (core.made k)) (n - core.made k)) p =
+    never_kept (rules P k) (point P k (core.made k)) p never (n - core.made k) in
+    let is : core.made k + (n - core.made k) ≡ n = omega arith in
+    let same : after (rules P k) (point P k (core.made k)) (n - core.made k) ≡ point P k n =
+    sym (after-add (rules P k) (opened P k) (core.made k) (n - core.made k)) ∙ ap (λ (x : ℕ). point P k x) is in
+    subst (λ (m : Machine). NotAt m.comp p) same (later.never [])
 
 -- the interval is a turn
 owns_turn : (P : Play) (core : Core) (k p : ℕ) → Invariant P core → k < core.count → Owns P (core.local (P.node k) p) k (P.node k) p → HasTurn P core k p

@@ -13,7 +13,7 @@ use Rattle.samoa_model.specs.Allowed.{bound_in, declares, weight}
 use Rattle.samoa_serial.specs.Calls.{Computation}
 use Rattle.samoa_serial.specs.Alone.{next_of, next_step}
 use Rattle.samoa_invariant.specs.Play.{Play, version, attempts, table_of, point, Never, IsIdle}
-use Rattle.samoa_invariant.specs.State.{Core, Step, Quiet, HasTurn, IsNextAt, CanEnter, CanRelease, CanEnd, IsEnabled, IsForward, AllEnded, IsSettled, NothingOut, NoneEnters, IsLeastOpen, IsPicked, named}
+use Rattle.samoa_invariant.specs.State.{Core, Step, Quiet, HasTurn, IsNextAt, CanEnter, CanRelease, CanEnd, IsEnabled, IsForward, AllEnded, IsSettled, NothingOut, NoneEnters, IsLeastOpen, named}
 use Rattle.samoa_invariant.specs.Inv.{Meets, Invariant, IsDone, IsOutRightly}
 use Rattle.samoa_invariant.proofs.Versions.{same_or_not, in_order, if_else, version-own, all_before_past}
 use Rattle.samoa_invariant.proofs.Points.{some_or_none}
@@ -146,6 +146,26 @@ idle_goes_on P core k i least none =
           past = λ p w. past p (declared_named (P.decl k) p w) w;
         })
 
+-- at its next handler step a computation is out nowhere, if the box there is home
+out_nowhere : (P : Play) (core : Core) (k p : ℕ) → Invariant P core → IsNextAt (core.comp k) p → core.out (P.node k) p ≡ None → (v q : ℕ) → core.out v q ≢ Some k
+out_nowhere P core k p i n home v q e =
+    let o : IsOutRightly P core v q k = i.out v q k e in
+    let m : IsNextAt (point P k (core.made k)).comp q = o.next in
+    let there : next_step (point P k (core.made k)).comp ≡ Some (n.call, n.moment) = sym (ap next_step (i.calls.comp k o.admitted)) ∙ n.next in
+    let X : Type 0 = Call × Moment in
+    let x : X = (m.call, m.moment) in
+    let y : X = (n.call, n.moment) in
+    let same : x ≡ y = some_injective {A = X} x y (sym m.next ∙ there) in
+    let slot : q ≡ p = sym m.is_at ∙ (ap (λ (z : Call × Moment). z.0.handler.micro.0) same ∙ n.is_at) in
+    let at_home : core.out v q ≡ None = ap (λ (u : ℕ). core.out u q) o.node ∙ (ap (λ (r : ℕ). core.out (P.node k) r) slot ∙ home) in
+    let no : Some k ≡ None = sym e ∙ at_home in
+    cc
+
+-- so it can enter the box where it has its turn
+pub can_enter : (P : Play) (core : Core) (k p : ℕ) → Invariant P core → IsNextAt (core.comp k) p → HasTurn P core k p → core.out (P.node k) p ≡ None → core.stopped ≡ false
+    → CanEnter P core k p
+can_enter P core k p i n turn home running = record { next = n; not_out = out_nowhere P core k p i n home; turn = turn; home = home; running = running }
+
 -- an active call whose box is home can enter it
 pub active_enters : (P : Play) (core : Core) (k : ℕ) → Invariant P core → IsLeastOpen core k → core.stopped ≡ false
     → (next : (p : ℕ) × IsNextAt (core.comp k) p) → core.out (P.node k) next.0 ≡ None → CanEnter P core k next.0
@@ -155,26 +175,10 @@ active_enters P core k i least running next home =
     let there : next_step (point P k (core.made k)).comp ≡ Some (n.call, n.moment) = sym (ap next_step is) ∙ n.next in
     let m : Meets P k = meets P k in
     let w : 0 < weight (P.decl k) next.0 = subst (λ (q : ℕ). 0 < weight (P.decl k) q) n.is_at (m.declared (core.made k) n.call n.moment there) in
-    record {
-      next = n;
-      not_out = λ v q e.
-          let o : IsOutRightly P core v q k = i.out v q k e in
-          let same : q ≡ next.0 = sym_at o.next there n.is_at in
-          let at_home : core.out v q ≡ None = ap (λ (u : ℕ). core.out u q) o.node ∙ (ap (λ (r : ℕ). core.out (P.node k) r) same ∙ home) in
-          let no : Some k ≡ None = sym e ∙ at_home in cc;
-      turn = has_turn P core k next.0 i least w (not_past w there n.is_at (in_order (core.local (P.node k) next.0) (core.private k (P.node k) next.0)));
-      home = home;
-      running = running;
-    }
+    can_enter P core k next.0 i n
+    (has_turn P core k next.0 i least w (not_past w there n.is_at (in_order (core.local (P.node k) next.0) (core.private k (P.node k) next.0))))
+    home running
   where
-    sym_at : {comp : Computation} {c : Call} {m : Moment} {q p : ℕ} → IsNextAt comp q → next_step comp ≡ Some (c, m) → c.handler.micro.0 ≡ p → q ≡ p
-    sym_at {comp} {c} {m} {q} {p} nx e is =
-        let X : Type 0 = Call × Moment in
-        let x : X = (nx.call, nx.moment) in
-        let y : X = (c, m) in
-        let same : x ≡ y = some_injective {A = X} x y (sym nx.next ∙ e) in
-        sym nx.is_at ∙ (ap (λ (z : Call × Moment). z.0.handler.micro.0) same ∙ is)
-
     not_past : {c : Call} {m : Moment} → 0 < weight (P.decl k) next.0 → next_step (point P k (core.made k)).comp ≡ Some (c, m) → c.handler.micro.0 ≡ next.0
         → (core.local (P.node k) next.0 < core.private k (P.node k) next.0)
         ⊎ ((core.local (P.node k) next.0 ≡ core.private k (P.node k) next.0) ⊎ (core.private k (P.node k) next.0 < core.local (P.node k) next.0))
@@ -278,12 +282,6 @@ ended-none_enters P core i running settled home none = go (open_or_ended core)
     go : ((k : ℕ) × IsLeastOpen core k) ⊎ AllEnded core → AllEnded core
     go (inl found) = let can : (p : ℕ) × CanEnter P core found.0 p = least_enters P core found.0 i running settled home found.1 in absurd (none found.0 can.0 can.1)
     go (inr all) = all
-
--- and who is picked is the least open computation
-pub least_picked : (P : Play) (core : Core) (k : ℕ) → Invariant P core → core.stopped ≡ false → IsSettled P core → NothingOut core → IsLeastOpen core k → IsPicked P core k
-least_picked P core k i running settled home least =
-    let can : (p : ℕ) × CanEnter P core k p = least_enters P core k i running settled home least in
-    record { slot = can.0; here = can.1; before = λ j p lt c. ended_stays P core j p i (least.before j lt) c }
 
 pub ended_or_goes_on : (P : Play) (core : Core) → Invariant P core → core.stopped ≡ false → AllEnded core ⊎ ((step : Step) × IsForward step × IsEnabled P core step)
 ended_or_goes_on P core i running = go (open_or_ended core)

@@ -1,18 +1,20 @@
 -- Releases and ends, as steps that are due: which of them stay due, which become due, and what they leave as it was.
-use Rattle.std.proofs.Common.{arith, ◌≡◌, ◌≢◌, ℕ, suc, ◌-◌, ◌≤◌, ◌<◌, ◌⊎◌, inl, inr, refl, sym, ap, subst, ◌∙◌, List, [], ◌∷◌, true}
+use Rattle.std.proofs.Common.{arith, ◌≡◌, ◌≢◌, ℕ, suc, ◌-◌, ◌≤◌, ◌<◌, ◌⊎◌, inl, inr, refl, sym, ap, subst, ◌∙◌, List, [], ◌∷◌, Bool, true, false, Option, Some, None}
 use Rattle.std.specs.List.{All}
 use Rattle.std.proofs.lemmas.List.Elements.{All-head, All-tail}
 use Rattle.samoa_model.specs.declared.record.Step.{Step}
+use Rattle.samoa_model.specs.declared.handler.Moment.{Moment}
+use Rattle.samoa_serial.specs.declared.call.Call.{Call}
+use Rattle.samoa_serial.specs.Alone.{next_step}
 use Rattle.samoa_invariant.specs.Play.{Play, version}
 use Rattle.samoa_invariant.specs.Inv.{Invariant, IsDone, Owns}
-use Rattle.samoa_invariant.specs.State.{CanEnd, CanRelease, Core, HasTurn, IsSettled, finish, release}
+use Rattle.samoa_invariant.specs.State.{CanEnd, CanRelease, Core, HasTurn, IsSettled, abandon, abandon_next, enter, finish, release}
 use Rattle.samoa_invariant.specs.Runs.{GoesOn, IsDue, IsRun, Trace, after_step, play, state, with_step}
 use Rattle.samoa_invariant.specs.Settling.{AreDue, EndsAll, EndsFirst, IsEnd, IsRelease, IsUnmoved, LeavesTheRest, ReleasesAll, ReleasesFirst, Settles, with_steps}
 use Rattle.samoa_invariant.proofs.Due.{after-due, due-after, run-with_steps, same-steps, with-more, with-none}
-use Rattle.samoa_invariant.proofs.Settles.{end_releases}
-use Rattle.samoa_invariant.proofs.Slots.{put-else, put_at-else, put_at-here, slot_or_not, turn_owns}
+use Rattle.samoa_invariant.proofs.Slots.{put-else, put-here, put_at-else, put_at-here, slot_or_not, turn_owns}
 use Rattle.samoa_invariant.proofs.Traces.{fewer, invariant, is_run-with_step, state-step}
-use Rattle.samoa_invariant.proofs.Versions.{in_order, owns_single, version-mono}
+use Rattle.samoa_invariant.proofs.Versions.{in_order, owns_single, same_or_not, version-mono}
 
 -- of one slot one computation has its turn
 pub turns_same : (P : Play) (core : Core) (j q k p : ℕ) → Invariant P core → P.node j ≡ P.node k → q ≡ p → HasTurn P core j q → HasTurn P core k p → j ≡ k
@@ -70,6 +72,20 @@ release_opens P core k p j q i can new = go (slot_or_not (P.node j) (P.node k) q
         let from = new.turn.from in
         let below = new.turn.below in
         inr (record { turn = record { admitted = new.turn.admitted; declared = new.turn.declared; from = omega arith; below = omega arith }; quiet = new.quiet })
+
+-- an end enables no release and no other end
+pub end_releases : (P : Play) (core : Core) (k j q : ℕ) → CanRelease P (finish core k) j q → CanRelease P core j q
+end_releases P core k j q can = record {
+  turn = record { admitted = can.turn.admitted; declared = can.turn.declared; from = can.turn.from; below = can.turn.below };
+  quiet = can.quiet;
+}
+
+pub end_ends : (P : Play) (core : Core) (k j : ℕ) → CanEnd P (finish core k) j → CanEnd P core j × (j ≢ k)
+end_ends P core k j can = go (same_or_not j k)
+  where
+    go : (j ≡ k) ⊎ (j ≢ k) → CanEnd P core j × (j ≢ k)
+    go (inl e) = absurd (let no_more : true ≡ false = sym (put-here {A = Bool} core.ended k j true e) ∙ can.not_ended in cc)
+    go (inr ne) = (record { admitted = can.admitted; not_ended = sym (put-else {A = Bool} core.ended k j true ne) ∙ can.not_ended; idle = can.idle; past = can.past }, ne)
 
 -- and an end stays enabled while another is made
 pub end_stays : (P : Play) (core : Core) (k j : ℕ) → CanEnd P core j → j ≢ k → CanEnd P (finish core k) j
@@ -270,3 +286,41 @@ pub settles-leave : (t u : Trace) → IsRun t → Settles t u → LeavesTheRest 
 settles-leave t u run s =
     let first : LeavesTheRest t s.between = releases-leave t s.between run s.releases in
     leaves-then t s.between u first (ends-leave s.between u first.run s.ends)
+
+-- an Enter and an Abandon keep a settled core settled
+enter_settled : (P : Play) (core : Core) (k p : ℕ) → IsSettled P core → IsSettled P (enter P core k p)
+enter_settled P core k p s = record {
+  released = λ j q can. s.released j q (record {
+    turn = record { admitted = can.turn.admitted; declared = can.turn.declared; from = can.turn.from; below = can.turn.below };
+    quiet = can.quiet;
+  });
+  ended = λ j can. s.ended j (record { admitted = can.admitted; not_ended = can.not_ended; idle = can.idle; past = can.past });
+}
+
+abandon_settled : (P : Play) (core : Core) (k p : ℕ) → IsSettled P core → IsSettled P (abandon P core k p)
+abandon_settled P core k p s = record {
+  released = λ j q can. s.released j q (record {
+    turn = record { admitted = can.turn.admitted; declared = can.turn.declared; from = can.turn.from; below = can.turn.below };
+    quiet = can.quiet;
+  });
+  ended = λ j can. s.ended j (record { admitted = can.admitted; not_ended = can.not_ended; idle = can.idle; past = can.past });
+}
+
+abandon_next_settled : (P : Play) (core : Core) (k : ℕ) (o : Option (Call × Moment)) → IsSettled P core → IsSettled P (abandon_next P core k o)
+abandon_next_settled P core k None s = record {
+  released = λ j q can. s.released j q (record {
+    turn = record { admitted = can.turn.admitted; declared = can.turn.declared; from = can.turn.from; below = can.turn.below };
+    quiet = can.quiet;
+  });
+  ended = λ j can. s.ended j (record { admitted = can.admitted; not_ended = can.not_ended; idle = can.idle; past = can.past });
+}
+abandon_next_settled P core k (Some next) s = abandon_settled P core k next.0.handler.micro.0 s
+
+pub enter-settled : (t : Trace) (c p : ℕ) → IsRun t → IsSettled (play t) (state t) → IsSettled (play t) (state (with_step t (Step.Enter c p)))
+enter-settled t c p run s =
+    subst (λ (core : Core). IsSettled (play t) core) (sym (state-step t (Step.Enter c p) run)) (enter_settled (play t) (state t) (c - 1) p s)
+
+pub abandon-settled : (t : Trace) (c : ℕ) → IsRun t → IsSettled (play t) (state t) → IsSettled (play t) (state (with_step t (Step.Abandon c)))
+abandon-settled t c run s =
+    subst (λ (core : Core). IsSettled (play t) core) (sym (state-step t (Step.Abandon c) run))
+    (abandon_next_settled (play t) (state t) (c - 1) (next_step ((state t).comp (c - 1))) s)

@@ -1,5 +1,7 @@
 -- Under a route: where nothing leads to p any more, no handler step is at p.
-use Rattle.std.proofs.Common.{◌≡◌, ◌≢◌, ℕ, sym, subst, true, List, [], ◌∷◌, ◌++◌, Some, None}
+use Rattle.std.proofs.Common.{◌≡◌, ◌≢◌, ℕ, sym, subst, true, List, [], ◌∷◌, ◌++◌, map, Some, None}
+use Rattle.std.specs.List.{All}
+use Rattle.std.proofs.lemmas.List.Elements.{All-head, All-tail}
 use Rattle.samoa_serial.specs.declared.call.Active.{Active}
 use Rattle.samoa_serial.specs.declared.call.Call.{Call}
 use Rattle.samoa_model.specs.declared.script.Decl.{Decl}
@@ -13,8 +15,8 @@ use Rattle.samoa_serial.specs.Calls.{Computation}
 use Rattle.samoa_model.specs.Scripts.{resolve, Table}
 use Rattle.samoa_serial.specs.World.{attempts_of}
 use Rattle.samoa_invariant.specs.Play.{drive, Never}
-use Rattle.samoa_model.specs.Paths.{Leads, Here, Then, IsSafe}
-use Rattle.samoa_invariant.specs.State.{AllSafe, ActiveSafe, WaitingSafe, RouteQuiet}
+use Rattle.samoa_model.specs.Paths.{Leads, Here, Then, IsSafe, handlers_by}
+use Rattle.samoa_invariant.specs.State.{Quiet}
 use Rattle.samoa_invariant.proofs.Closed.{Of, IsClosed, closed_drive}
 use Rattle.samoa_invariant.proofs.Accepts.{AllPass, AllActive, AllHandlers, IsAccepted, is_accepted, begun_all, none_unless, passed_form, next_is_head}
 
@@ -101,26 +103,31 @@ away_closed vertices roots edges table p =
           record { active = k.active; waiting = may.1 };
     }
 
-active_safe : (vertices : List HandlerId) (edges : List (ℕ × ℕ)) (p : ℕ) (active : List Active) → ActiveSafe vertices edges p active → AllActive (IsSafe vertices edges p) active
-active_safe vertices edges p [] all = tt
-active_safe vertices edges p (a ∷ rest) all = (all.0, active_safe vertices edges p rest all.1)
+active_safe : (Q : HandlerId → Type 0) (active : List Active) → All Q (map (λ a. a.call.handler) active) → AllActive Q active
+active_safe Q [] all = tt
+active_safe Q (a ∷ rest) all =
+    (All-head Q a.call.handler (map (λ x. x.call.handler) rest) all, active_safe Q rest (All-tail Q a.call.handler (map (λ x. x.call.handler) rest) all))
 
-handlers_safe : (vertices : List HandlerId) (edges : List (ℕ × ℕ)) (p : ℕ) (hs : List HandlerId) → AllSafe vertices edges p hs → AllHandlers (IsSafe vertices edges p) hs
-handlers_safe vertices edges p [] all = tt
-handlers_safe vertices edges p (h ∷ hs) all = (all.0, handlers_safe vertices edges p hs all.1)
+first_safe : (Q : HandlerId → Type 0) (hs rest : List HandlerId) → All Q (hs ++ rest) → AllHandlers Q hs × All Q rest
+first_safe Q [] rest all = (tt, all)
+first_safe Q (h ∷ hs) rest all =
+    let later : AllHandlers Q hs × All Q rest = first_safe Q hs rest (All-tail Q h (hs ++ rest) all) in
+    ((All-head Q h (hs ++ rest) all, later.0), later.1)
 
-waiting_safe : (vertices : List HandlerId) (edges : List (ℕ × ℕ)) (table : Table) (p : ℕ) (ws : List Waiting) → WaitingSafe vertices edges table p ws → MaySafely vertices edges table p ws
+waiting_safe : (vertices : List HandlerId) (edges : List (ℕ × ℕ)) (table : Table) (p : ℕ) (ws : List Waiting)
+    → All (IsSafe vertices edges p) (handlers_by table (map (λ w. w.event) ws)) → MaySafely vertices edges table p ws
 waiting_safe vertices edges table p [] all = tt
 waiting_safe vertices edges table p (w ∷ ws) all =
-    ((λ lead. handlers_safe vertices edges p (resolve table w.event) all.0), waiting_safe vertices edges table p ws all.1)
+    let both = first_safe (IsSafe vertices edges p) (resolve table w.event) (handlers_by table (map (λ x. x.event) ws)) all in
+    ((λ lead. both.0), waiting_safe vertices edges table p ws both.1)
 
 -- the release of a route is sound
 pub route_never : (vertices : List HandlerId) (roots : List ℕ) (edges : List (ℕ × ℕ)) (table : Table) (comp : Computation) (p : ℕ)
-    → RouteQuiet vertices edges table comp p → Never (attempts_of (Decl.Route vertices roots edges) table) comp p
+    → Quiet (Decl.Route vertices roots edges) table comp p → Never (attempts_of (Decl.Route vertices roots edges) table) comp p
 route_never vertices roots edges table comp p quiet os =
     let first : Of (IsAway vertices edges table p) comp = record {
-      active = active_safe vertices edges p comp.active quiet.active;
-      waiting = waiting_safe vertices edges table p comp.waiting quiet.waiting;
+      active = active_safe (IsSafe vertices edges p) comp.active quiet.active_away;
+      waiting = waiting_safe vertices edges table p comp.waiting quiet.waiting_away;
     } in
     let later : Of (IsAway vertices edges table p) (drive (attempts_of (Decl.Route vertices roots edges) table) comp os) =
     closed_drive (attempts_of (Decl.Route vertices roots edges) table) (IsAway vertices edges table p) (away_closed vertices roots edges table p) comp os first in

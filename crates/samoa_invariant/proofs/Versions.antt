@@ -1,5 +1,5 @@
 -- The intervals of the computations at a slot.
-use Rattle.std.proofs.Common.{arith, ◌≡◌, ◌≢◌, ℕ, zero, suc, ◌+◌, ◌≤◌, ◌<◌, ◌⊎◌, inl, inr, refl, ap, eq-eqb, ne_eqb, ◌==◌, if◌then◌else◌}
+use Rattle.std.proofs.Common.{arith, ◌≡◌, ◌≢◌, ℕ, zero, suc, ◌+◌, ◌*◌, ◌≤◌, ◌<◌, ◌⊎◌, inl, inr, refl, ap, eq-eqb, ne_eqb, ◌==◌, if◌then◌else◌}
 use Rattle.samoa_model.specs.Allowed.{weight}
 use Rattle.samoa_invariant.specs.Play.{Play, weight_at, version}
 use Rattle.samoa_invariant.specs.Inv.{Owns}
@@ -77,3 +77,14 @@ all_before_past P x (suc k) v p h = go (all_before_past P x k v p (λ j lt. h j 
     go before (inr ne) w = omega (arith, weight_at-else P k v p ne)
     go before (inl e) (inl none) = omega (arith, weight_at-is P k v p e)
     go before (inl e) (inr some) = h k (omega arith) e (omega arith)
+
+-- the versions stay in range
+pub version-most : (P : Play) (most n v p : ℕ) → ((k : ℕ) → k < n → weight (P.decl k) p ≤ most) → version P n v p ≤ n * most
+version-most P most zero v p h = omega arith
+version-most P most (suc n) v p h = go (version-most P most n v p (λ k lt. h k (omega arith))) (h n (omega arith)) (same_or_not v (P.node n))
+  where
+    go : version P n v p ≤ n * most → weight (P.decl n) p ≤ most → (v ≡ P.node n) ⊎ (v ≢ P.node n) → version P (suc n) v p ≤ suc n * most
+    go ih w (inl e) = let is : weight_at P n v p ≡ weight (P.decl n) p = weight_at-is P n v p e in
+        let m : suc n * most ≡ n * most + most = omega arith in omega arith
+    go ih w (inr ne) = let is : weight_at P n v p ≡ zero = weight_at-else P n v p ne in
+        let m : suc n * most ≡ n * most + most = omega arith in omega arith

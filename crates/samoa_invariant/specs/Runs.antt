@@ -128,6 +128,12 @@ pub record IsRun (t : Trace) : Type 0 where
 abbrev pub IsDue : Trace → Step → Type 0
 IsDue t step = CanMake (play t) (state t) step
 
+-- whether a handler step was abandoned
+abbrev pub has_abandon : List Step → Bool
+has_abandon [] = false
+has_abandon (Step.Abandon comp ∷ later) = true
+has_abandon (_ ∷ later) = has_abandon later
+
 -- one more step
 abbrev pub with_step : Trace → Step → Trace
 with_step t step = record t { journal = t.journal ++ step ∷ [] }
