@@ -4,8 +4,7 @@ use Rattle.std.specs.Prelude.{option_map, slice_get}
 use Rattle.std.proofs.lemmas.List.{length-map}
 use Rattle.std.proofs.lemmas.Option.{slice_get-map, slice_get-get_or}
 use Rattle.samoa_model.specs.Range.{IsBuilt, IsInRange}
-use Rattle.samoa_model.specs.Allowed.{weight}
-use Rattle.samoa_model.specs.Scripts.{Table, decl_of, no_micro}
+use Rattle.samoa_model.specs.Scripts.{Table, no_micro}
 use Rattle.samoa_model.specs.declared.ids.NodeId.{NodeId}
 use Rattle.samoa_model.specs.declared.record.Ext.{Ext}
 use Rattle.samoa_model.specs.declared.record.Step.{Step}
@@ -22,6 +21,7 @@ use Rattle.samoa_core.specs.Known.{decl_number}
 use Rattle.samoa_core.specs.Places.{slot_in}
 use Rattle.samoa_core.specs.Room.{to_come}
 use Rattle.samoa_core.specs.Running.{Computing, IsRunning, turn_of}
+use Rattle.samoa_core.specs.declared.running.Interval.{Interval}
 use Rattle.samoa_core.specs.Since.{cleared_comps}
 use Rattle.samoa_core.specs.Slots.{Slotted, row_of, rows_of, set_up_at}
 use Rattle.samoa_core.specs.Kept.{Fields, HasTable, Holds, Kept, Runs, trace_of}
@@ -146,9 +146,9 @@ kept-with fs step local slots running unended away stopped kept due fit micros h
 
 -- a computation of which nothing changes
 pub runs-on : (script : Script) (tables : List (List Table)) (exts more : List Ext) (core after : model.Core) (k : ℕ) (r : Computing) → k < after.count
-    → ext_at more k ≡ ext_at exts k → ((v p : ℕ) → after.private k v p ≡ core.private k v p) → after.comp k ≡ core.comp k → after.table k ≡ core.table k
+    → ext_at more k ≡ ext_at exts k → ((v p : ℕ) → turn_of after k v p ≡ turn_of core k v p) → after.comp k ≡ core.comp k → after.table k ≡ core.table k
     → after.ended k ≡ core.ended k → Runs script tables exts core k r → Runs script tables more after k r
-runs-on script tables exts more core after k r lt ext private comp table ended runs = record {
+runs-on script tables exts more core after k r lt ext turn comp table ended runs = record {
   is = record {
     admitted = lt;
     node = runs.is.node ∙ ap (λ (x : Ext). x.node) (sym ext);
@@ -156,8 +156,7 @@ runs-on script tables exts more core after k r lt ext private comp table ended r
     turns = record {
       size = runs.is.turns.size;
       value = λ p below. runs.is.turns.value p below
-          ∙ (ap (λ (x : Ext). Some (turn_of (core.private k x.node.0 p) (weight (decl_of script x).decl p))) (sym ext)
-          ∙ ap (λ (n : ℕ). Some (turn_of n (weight (decl_of script (ext_at more k)).decl p))) (sym (private (ext_at more k).node.0 p)));
+          ∙ (ap (λ (x : Ext). Some (turn_of core k x.node.0 p)) (sym ext) ∙ ap (λ (i : Interval). Some i) (sym (turn (ext_at more k).node.0 p)));
     };
     comp = runs.is.comp ∙ sym comp;
     waiting = runs.is.waiting ∙ (ap (λ (x : Table). handlers_of x (core.comp k).waiting) (sym table) ∙ ap (λ (d : Computation). handlers_of (after.table k) d.waiting) (sym comp));

@@ -13,3 +13,7 @@ pub mod Keeps
 pub mod Versioned
 pub mod Rising
 pub mod Taken
+pub mod Quiets
+pub mod Answered
+pub mod Going
+pub mod Admitted

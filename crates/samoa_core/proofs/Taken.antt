@@ -9,7 +9,6 @@ use Rattle.samoa_invariant.proofs.Slots.{put_at-else, put_at-here}
 use Rattle.samoa_invariant.proofs.Versions.{same_or_not}
 use Rattle.samoa_core.specs.Admission.{raised, turns_taken, version_after}
 use Rattle.samoa_core.specs.Grids.{Grid}
-use Rattle.samoa_core.specs.Running.{turn_of}
 use Rattle.samoa_core.specs.declared.running.Interval.{Interval}
 use Rattle.samoa_core.proofs.Grids.{get_or-other, grid-put, length-set, slice_get-left, slice_get-right}
 
@@ -70,34 +69,42 @@ grid-raised rows columns v items f g decl lt grid mine others =
         ap (λ (n : ℕ). risen f decl v columns n p) e ∙ (risen-below f decl v columns p cp ∙ (sym (mine p) ∙ ap (λ (n : ℕ). g n p) (sym e)))
     is i p cp (inr ne) = risen-other f decl v columns i p ne ∙ sym (others i p ne)
 
--- one version and the next have the turn between them
+-- the turn that an admission takes at a microprotocol
 last_turn : Decl → ℕ → ℕ → List ℕ → ℕ → Interval
-last_turn decl columns v items n = turn_of (version_after decl columns v (raised decl columns v items n) n) (weight decl n)
+last_turn decl columns v items n = record {
+  from = get_or (raised decl columns v items n) (v * columns + n) 0;
+  to = version_after decl columns v (raised decl columns v items n) n;
+}
 
 pub length-taken : (decl : Decl) (columns v : ℕ) (items : List ℕ) (n : ℕ) → length (turns_taken decl columns v items n) ≡ n
+unfolding last_turn
 length-taken decl columns v items zero = refl
 length-taken decl columns v items (suc n) =
     let rest : length (turns_taken decl columns v items n) ≡ n = length-taken decl columns v items n in
     let more = length-append (turns_taken decl columns v items n) (last_turn decl columns v items n ∷ []) in
     omega (arith, rest, more)
 
+-- what a version and its weight make
+risen_turn : ℕ → ℕ → Interval
+risen_turn low weight = record { from = low; to = low + weight }
+
 pub taken-at : (rows columns v n p : ℕ) (items : List ℕ) (f : At ℕ) (decl : Decl) → v < rows → n ≤ columns → Grid rows columns items f → p < n
-    → slice_get (turns_taken decl columns v items n) p ≡ Some (turn_of (f v p + weight decl p) (weight decl p))
-unfolding last_turn
+    → slice_get (turns_taken decl columns v items n) p ≡ Some (record { from = f v p; to = f v p + weight decl p })
+unfolding last_turn, risen_turn
 taken-at rows columns v zero p items f decl lt le grid below = absurd (omega arith)
 taken-at rows columns v (suc n) p items f decl lt le grid below = go (same_or_not p n) (λ less. taken-at rows columns v n p items f decl lt (omega arith) grid less)
   where
     long : length (turns_taken decl columns v items n) ≡ n
     long = length-taken decl columns v items n
 
-    go : (p ≡ n) ⊎ (p ≢ n) → (p < n → slice_get (turns_taken decl columns v items n) p ≡ Some (turn_of (f v p + weight decl p) (weight decl p)))
-        → slice_get (turns_taken decl columns v items n ++ last_turn decl columns v items n ∷ []) p ≡ Some (turn_of (f v p + weight decl p) (weight decl p))
+    go : (p ≡ n) ⊎ (p ≢ n) → (p < n → slice_get (turns_taken decl columns v items n) p ≡ Some (risen_turn (f v p) (weight decl p)))
+        → slice_get (turns_taken decl columns v items n ++ last_turn decl columns v items n ∷ []) p ≡ Some (risen_turn (f v p) (weight decl p))
     go (inl e) before =
         let at : p ≡ length (turns_taken decl columns v items n) + 0 = omega (arith, e, long) in
         let grid_n : Grid rows columns (raised decl columns v items n) (risen f decl v n) = grid-risen rows columns v n items f decl lt (omega arith) grid in
         ap (λ (q : ℕ). slice_get (turns_taken decl columns v items n ++ last_turn decl columns v items n ∷ []) q) at
         ∙ (slice_get-right {A = Interval} (turns_taken decl columns v items n) (last_turn decl columns v items n ∷ []) 0
-        ∙ (ap (λ (x : ℕ). Some (turn_of (x + weight decl n) (weight decl n))) (here rows columns v n (raised decl columns v items n) (risen f decl v n) grid_n lt (omega arith) ∙ risen-above f decl v n n (omega arith))
-        ∙ ap (λ (q : ℕ). Some (turn_of (f v q + weight decl q) (weight decl q))) (sym e)))
+        ∙ (ap (λ (x : ℕ). Some (risen_turn x (weight decl n))) (here rows columns v n (raised decl columns v items n) (risen f decl v n) grid_n lt (omega arith) ∙ risen-above f decl v n n (omega arith))
+        ∙ ap (λ (q : ℕ). Some (risen_turn (f v q) (weight decl q))) (sym e)))
     go (inr ne) before =
         slice_get-left {A = Interval} (turns_taken decl columns v items n) (last_turn decl columns v items n ∷ []) p (omega (arith, long, ne)) ∙ before (omega arith)

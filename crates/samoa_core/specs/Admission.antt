@@ -15,7 +15,6 @@ use Rattle.samoa_serial.specs.World.{attempts_of}
 use Rattle.samoa_invariant.specs.State.{named}
 use Rattle.samoa_invariant.specs.Runs.{Trace, with_ext, with_step}
 use Rattle.samoa_core.specs.Known.{decl_number}
-use Rattle.samoa_core.specs.Running.{turn_of}
 use Rattle.samoa_core.specs.declared.running.Interval.{Interval}
 
 -- one more external event, admitted in the same step
@@ -66,8 +65,9 @@ raised decl columns node versions (suc n) =
     let before = raised decl columns node versions n in
     set before (node * columns + n) (version_after decl columns node before n)
 
--- the turns at the first n microprotocols
+-- the turns at the first n microprotocols: from the version before to that after
 abbrev pub turns_taken : Decl → ℕ → ℕ → List ℕ → ℕ → List Interval
 turns_taken decl columns node versions zero = []
 turns_taken decl columns node versions (suc n) =
-    turns_taken decl columns node versions n ++ turn_of (version_after decl columns node (raised decl columns node versions n) n) (weight decl n) ∷ []
+    let before = raised decl columns node versions n in
+    turns_taken decl columns node versions n ++ record { from = get_or before (node * columns + n) 0; to = version_after decl columns node before n } ∷ []

@@ -1,8 +1,6 @@
 -- A computation that was admitted since the last clear.
-use Rattle.std.specs.Prelude.{◌≡◌, ℕ, ◌-◌, ◌<◌, List, length, Bool}
+use Rattle.std.specs.Prelude.{◌≡◌, ℕ, ◌<◌, List, length, Bool}
 use Rattle.samoa_core.specs.declared.running.Interval.{Interval}
-use Rattle.samoa_model.specs.Allowed.{weight}
-use Rattle.samoa_model.specs.Scripts.{decl_of}
 use Rattle.samoa_model.specs.declared.ids.NodeId.{NodeId}
 use Rattle.samoa_model.specs.declared.record.Ext.{Ext}
 use Rattle.samoa_model.specs.declared.script.Script.{Script}
@@ -20,16 +18,16 @@ pub record Computing : Type 0 where
   pub calls : Held
   pub ended : Bool
 
--- the local versions at which it is the turn of a private version with this weight: none where the weight is 0
-abbrev pub turn_of : ℕ → ℕ → Interval
-turn_of private weight = record { from = private - weight; to = private }
+-- the local versions of a slot at which it is the turn of computation k
+abbrev pub turn_of : model.Core → ℕ → ℕ → ℕ → Interval
+turn_of core k node p = record { from = core.from k node p; to = core.private k node p }
 
 -- it is computation k of a state
 pub record IsRunning (script : Script) (exts : List Ext) (core : model.Core) (k : ℕ) (r : Computing) : Type 0 where
   pub admitted : k < core.count
   pub node : r.node ≡ (ext_at exts k).node
   pub decl : r.calls.decl ≡ decl_number script (ext_at exts k)
-  pub turns : Row (length script.micros) r.turns (λ p. turn_of (core.private k (ext_at exts k).node.0 p) (weight (decl_of script (ext_at exts k)).decl p))
+  pub turns : Row (length script.micros) r.turns (turn_of core k (ext_at exts k).node.0)
   pub comp : r.calls.comp ≡ core.comp k
   pub waiting : r.calls.waiting_handlers ≡ handlers_of (core.table k) (core.comp k).waiting
   pub ended : r.ended ≡ core.ended k

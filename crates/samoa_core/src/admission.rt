@@ -11,7 +11,6 @@ ghost use Rattle.samoa_versions.specs.Counters.{gv_at};
 ghost use Rattle.samoa_core.specs.Admission.{admitted, beside_units, most_admitted, most_versions, raised, started, steps_a_unit, steps_of as steps_to_come, turns_taken, version_after};
 ghost use Rattle.samoa_core.specs.Kept.{AreTables};
 ghost use Rattle.samoa_core.specs.Later.{IsStill};
-ghost use Rattle.samoa_core.specs.Running.{turn_of};
 ghost use Rattle.samoa_core.specs.Since.{cleared_comps};
 
 use crate::forms::{named_count, weight};
@@ -195,7 +194,7 @@ fn take_turn(decl: &Decl, columns: usize, node: u32, micro: u32, versions: &mut 
     requires few { columns ≤ 24 }
     requires there { node * columns + micro < length versions.old.gv }
     requires small { gv_at versions.old (node * columns + micro) < most_versions }
-    ensures turn { result ≡ turn_of (version_after decl.now columns node versions.old.gv micro) (weight decl.now micro) }
+    ensures turn { result ≡ record { from = gv_at versions.old (node * columns + micro); to = version_after decl.now columns node versions.old.gv micro } }
     ensures gv { versions.new.gv ≡ set versions.old.gv (node * columns + micro) result.to }
     ensures lv { versions.new.lv ≡ versions.old.lv }
 {

@@ -2,11 +2,10 @@
 //! completed call raises a version.
 ghost use Rattle.std.specs.Prelude.{◌≡◌, ◌↔◌, ◌<◌, ◌≤◌, ◌+◌, ◌*◌, length, IfSome, IsTrue};
 ghost use Rattle.samoa_model.specs.Allowed.{weight};
-ghost use Rattle.samoa_model.specs.Scripts.{Table};
-ghost use Rattle.samoa_serial.specs.Calls.{Computation};
-ghost use Rattle.samoa_invariant.specs.State.{Quiet, named};
+ghost use Rattle.samoa_model.specs.Paths.{MayRelease};
+ghost use Rattle.samoa_invariant.specs.State.{named};
 ghost use Rattle.samoa_versions.specs.Counters.{gv_at, lv_at};
-ghost use Rattle.samoa_core.specs.Forms.{IsStanding, IsTestable, raises, risen, waits_for_rest};
+ghost use Rattle.samoa_core.specs.Forms.{IsTestable, raises, risen, waits_for_rest};
 
 use crate::grid::place;
 use samoa_declare::{Standing, weight as weight_of};
@@ -38,9 +37,7 @@ pub(crate) fn named_count(decl: &Decl) -> usize
 /// Whether a computation that has its turn at a microprotocol may be done with it.
 pub(crate) fn may_release<T: Standing>(decl: &Decl, standing: &T, micro: u32) -> bool
     requires { IsTestable decl.now }
-    ensures { (table : Table) (comp : Computation)
-        → IsStanding table comp (T.active_handlers standing.now) (T.waiting_handlers standing.now)
-        → (IsTrue result ↔ Quiet decl.now table comp micro) }
+    ensures { IsTrue result ↔ MayRelease decl.now (T.active_handlers standing.now) (T.waiting_handlers standing.now) micro }
 {
     let micro = MicroId(micro);
     match decl {

@@ -111,8 +111,7 @@ impl<B: Micro> Core<B> {
         let node = self.running(comp).node;
         let turn = self.running(comp).turn(micro);
         let slot = place(self.script.micros.len(), node.0, micro);
-        self.versions
-            .finish(slot, turn.to, (turn.to - turn.from) as u32);
+        self.versions.hand_on(slot, turn.from, turn.to);
         self.journal.note(Step::Release { comp, micro });
     }
 
