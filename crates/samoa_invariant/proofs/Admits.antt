@@ -123,6 +123,10 @@ admit_keeps P core meets i = record {
     table = last_or (λ (a : ℕ). (admit P core).table a ≡ table_of P a) core.count
         (put-here {A = Table} core.table core.count core.count _ refl ∙ admit_table P core i)
         (λ a lt ne. put-else {A = Table} core.table core.count a _ ne ∙ i.booked.table a lt);
+    from = λ j v p lt. last_or (λ (a : ℕ). (admit P core).from a v p ≡ version P a v p) core.count
+        (ap (λ (f : ℕ → ℕ → ℕ). f v p) (put-here {A = ℕ → ℕ → ℕ} core.from core.count core.count core.global refl) ∙ i.versions.global v p)
+        (λ a lt' ne. ap (λ (f : ℕ → ℕ → ℕ). f v p) (put-else {A = ℕ → ℕ → ℕ} core.from core.count a core.global ne) ∙ i.booked.from a v p lt')
+        j lt;
     private = λ j v p lt. last_or (λ (a : ℕ). (admit P core).private a v p ≡ version P (suc a) v p) core.count
         (ap (λ (f : ℕ → ℕ → ℕ). f v p) (put-here {A = ℕ → ℕ → ℕ} core.private core.count core.count (λ u q. core.global u q + weight_at P core.count u q) refl)
         ∙ ap (λ (x : ℕ). x + weight_at P core.count v p) (i.versions.global v p))

@@ -146,6 +146,7 @@ invariant-agree P Q core a i =
       booked = record {
         present = λ v. i.booked.present v ∙ table_agree P Q core.count a core.count v (omega arith);
         table = λ k lt. i.booked.table k lt ∙ table_of-agree P Q core.count a k lt;
+        from = λ k v p lt. i.booked.from k v p lt ∙ version-agree P Q core.count a k v p (omega arith);
         private = λ k v p lt. i.booked.private k v p lt ∙ version-agree P Q core.count a (suc k) v p (omega arith);
       };
       versions = record {

@@ -12,7 +12,7 @@ use Rattle.samoa_invariant.proofs.Forms.{enabled_keeps}
 
 pub empty_keeps : (P : Play) → Invariant P (empty P)
 empty_keeps P = record {
-  booked = record { present = λ v. refl; table = λ k lt. absurd (omega arith); private = λ k v p lt. absurd (omega arith) };
+  booked = record { present = λ v. refl; table = λ k lt. absurd (omega arith); from = λ k v p lt. absurd (omega arith); private = λ k v p lt. absurd (omega arith) };
   versions = record { global = λ v p. refl; local = λ v p. omega arith; counted = λ k p lt. absurd (omega arith) };
   not_yet = λ k p lt. absurd (omega arith);
   no_more = λ k p lt. absurd (omega arith);

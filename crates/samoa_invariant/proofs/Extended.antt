@@ -11,6 +11,7 @@ use Rattle.samoa_model.specs.Scripts.{caused, decl_of, first_table, root_of}
 use Rattle.samoa_serial.specs.declared.call.Call.{Call}
 use Rattle.samoa_serial.specs.Alone.{next_step}
 use Rattle.samoa_serial.specs.SerialRun.{node_step, opening_states}
+use Rattle.samoa_versions.specs.Counters.{IsTurn}
 use Rattle.samoa_invariant.specs.Play.{Play}
 use Rattle.samoa_invariant.specs.State as model
 use Rattle.samoa_invariant.specs.State.{AllEnded, CanEnd, CanEnter, CanRelease, Core, HasTurn, Quiet}
@@ -70,20 +71,17 @@ made-same script cells xs ys core step e =
     made-one script cells xs core step
     ∙ (ap (λ (x : Ext). model.made_by (all_are script x) core step) e ∙ sym (made-one script cells ys core step))
 
-turn-same : (P Q : Play) (core : Core) (k p : ℕ) → P.node k ≡ Q.node k → P.decl k ≡ Q.decl k → HasTurn P core k p → HasTurn Q core k p
-turn-same P Q core k p node decl turn = record {
+turn-same : (P Q : Play) (core : Core) (k p : ℕ) → P.node k ≡ Q.node k → HasTurn P core k p → HasTurn Q core k p
+turn-same P Q core k p node turn = record {
   admitted = turn.admitted;
-  declared = subst (λ (d : Decl). 0 < weight d p) decl turn.declared;
-  from = subst (λ (v : ℕ). core.private k v p ≤ core.local v p + weight (Q.decl k) p) node
-      (subst (λ (d : Decl). core.private k (P.node k) p ≤ core.local (P.node k) p + weight d p) decl turn.from);
-  below = subst (λ (v : ℕ). core.local v p < core.private k v p) node turn.below;
+  turn = subst (λ (v : ℕ). IsTurn (core.local v p) (core.from k v p) (core.private k v p)) node turn.turn;
 }
 
-enter-same : (P Q : Play) (core : Core) (k p : ℕ) → P.node k ≡ Q.node k → P.decl k ≡ Q.decl k → CanEnter P core k p → CanEnter Q core k p
-enter-same P Q core k p node decl can = record {
+enter-same : (P Q : Play) (core : Core) (k p : ℕ) → P.node k ≡ Q.node k → CanEnter P core k p → CanEnter Q core k p
+enter-same P Q core k p node can = record {
   next = can.next;
   not_out = can.not_out;
-  turn = turn-same P Q core k p node decl can.turn;
+  turn = turn-same P Q core k p node can.turn;
   home = subst (λ (v : ℕ). core.out v p ≡ None) node can.home;
   running = can.running;
 }
@@ -96,7 +94,7 @@ leaves-same P Q core k node can = record {
 
 release-same : (P Q : Play) (core : Core) (k p : ℕ) → P.node k ≡ Q.node k → P.decl k ≡ Q.decl k → CanRelease P core k p → CanRelease Q core k p
 release-same P Q core k p node decl can = record {
-  turn = turn-same P Q core k p node decl can.turn;
+  turn = turn-same P Q core k p node can.turn;
   quiet = subst (λ (d : Decl). Quiet d (core.table k) (core.comp k) p) decl can.quiet;
 }
 
@@ -116,7 +114,7 @@ enabled-same script cells xs ys core model.Step.Admit le e can =
     let room : core.count < min (length xs) 100000 = can.room in
     record { room = omega arith; cells = subst (λ (x : Ext). core.cells + cells_of script x ≤ cells) e can.cells }
 enabled-same script cells xs ys core (model.Step.Enter k p) le e can =
-    enter-same (play_of script cells xs) (play_of script cells ys) core k p (ap (λ (x : Ext). x.node.0) e) (ap (λ (x : Ext). (decl_of script x).decl) e) can
+    enter-same (play_of script cells xs) (play_of script cells ys) core k p (ap (λ (x : Ext). x.node.0) e) can
 enabled-same script cells xs ys core (model.Step.Leave k) le e can =
     leaves-same (play_of script cells xs) (play_of script cells ys) core k (ap (λ (x : Ext). x.node.0) e) can
 enabled-same script cells xs ys core (model.Step.Abandon k) le e can =

@@ -12,7 +12,7 @@ use Rattle.samoa_invariant.specs.State.{AllEnded, CanEnd, CanEnter, CanLeave, Ca
 use Rattle.samoa_invariant.specs.Inv.{Invariant, IsOutRightly}
 use Rattle.samoa_invariant.proofs.Versions.{same_or_not, if_here, if_else}
 use Rattle.samoa_invariant.proofs.Points.{next_within}
-use Rattle.samoa_invariant.proofs.Slots.{put-else, put-here, put_at-else, put_at-here, slot_or_not}
+use Rattle.samoa_invariant.proofs.Slots.{put-else, put-here, put_at-else, put_at-here, slot_or_not, turn_declares}
 use Rattle.samoa_invariant.proofs.Forms.{enabled_keeps}
 use Rattle.samoa_invariant.proofs.Progress.{IsIn, declared_named, ended_or_goes_on}
 
@@ -161,8 +161,8 @@ end_fewer P core k can = sum-fewer (left_of P core) (left_of P (finish core k)) 
         home None = omega arith
         home (Some next) = omega arith
 
-pub release_fewer : (P : Play) (core : Core) (k p : ℕ) → CanRelease P core k p → left P (release P core k p) < left P core
-release_fewer P core k p can = sum-fewer (left_of P core) (left_of P (release P core k p)) core.count k can.turn.admitted mine others
+release_fewer : (P : Play) (core : Core) (k p : ℕ) → Invariant P core → CanRelease P core k p → left P (release P core k p) < left P core
+release_fewer P core k p i can = sum-fewer (left_of P core) (left_of P (release P core k p)) core.count k can.turn.admitted mine others
   where
     x : ℕ
     x = core.private k (P.node k) p
@@ -200,7 +200,7 @@ release_fewer P core k p can = sum-fewer (left_of P core) (left_of P (release P 
         let fewer : shorts (core.private k (P.node k)) (λ q. put_at core.local (P.node k) p (core.private k (P.node k) p) (P.node k) q) (named (P.decl k))
         < shorts (core.private k (P.node k)) (core.local (P.node k)) (named (P.decl k)) =
         shorts-fewer (core.private k (P.node k)) (core.local (P.node k)) (λ q. put_at core.local (P.node k) p (core.private k (P.node k) p) (P.node k) q) (named (P.decl k)) p
-        (λ q. up (P.node k) q) (declared_named (P.decl k) p can.turn.declared) lt
+        (λ q. up (P.node k) q) (declared_named (P.decl k) p (turn_declares P core k p i can.turn)) lt
         (put_at-here {A = ℕ} core.local (P.node k) p (P.node k) p (core.private k (P.node k) p) refl refl) in
         let same : home_of P (release P core k p) k (next_step (core.comp k)) ≤ home_of P core k (next_step (core.comp k)) = home k (next_step (core.comp k)) in
         omega arith
@@ -286,7 +286,7 @@ step_fewer P core Step.Admit i f can = absurd f
 step_fewer P core (Step.Enter k p) i f can = enter_fewer P core k p can
 step_fewer P core (Step.Leave k) i f can = leave_fewer P core k i can
 step_fewer P core (Step.Abandon k) i f can = absurd f
-step_fewer P core (Step.Release k p) i f can = release_fewer P core k p can
+step_fewer P core (Step.Release k p) i f can = release_fewer P core k p i can
 step_fewer P core (Step.End k) i f can = end_fewer P core k can
 step_fewer P core Step.Clear i f can = absurd f
 

@@ -261,7 +261,7 @@ pub moved_keeps : (P : Play) (a : Core) (l : At ℕ) (s : At State) (o : At (Opt
 moved_keeps P a l s o c m k p x n meets i mv =
     let slots : (j q : ℕ) → j < a.count → AtSlot P j q (l (P.node j) q) (m j) (s (P.node j) q) = moved_slots P a l s o c m k p x n meets i mv in
     record {
-      booked = record { present = i.booked.present; table = i.booked.table; private = i.booked.private };
+      booked = record { present = i.booked.present; table = i.booked.table; from = i.booked.from; private = i.booked.private };
       versions = record {
         global = i.versions.global;
         local = moved_most P a l s o c m k p x n i mv;

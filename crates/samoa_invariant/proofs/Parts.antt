@@ -8,8 +8,8 @@ use Rattle.samoa_invariant.specs.Play.{IsIdle, Never, NotAt, Play, attempts, don
 use Rattle.samoa_invariant.specs.State.{Core, HasTurn, IsNextAt}
 use Rattle.samoa_invariant.specs.Inv.{Invariant, IsDone, IsOutRightly, Owns}
 use Rattle.samoa_invariant.specs.Parts.{OutInTurn, SixParts, StatesAreSerial, StepsAreInTurn, VersionsAreSums}
-use Rattle.samoa_invariant.proofs.Versions.{in_order, owns_declares, same_or_not, some_owner, version-own, weight_at-else}
-use Rattle.samoa_invariant.proofs.Slots.{turn_owns}
+use Rattle.samoa_invariant.proofs.Versions.{in_order, same_or_not, some_owner, version-own, weight_at-else}
+use Rattle.samoa_invariant.proofs.Slots.{owns_turn, turn_owns}
 use Rattle.samoa_invariant.proofs.Steps.{some_injective}
 use Rattle.samoa_serial.specs.Alone.{Machine, after}
 use Rattle.samoa_serial.proofs.Reach.{after-add}
@@ -26,15 +26,6 @@ no_more_steps P core k p i lt w past n le =
     let same : after (rules P k) (point P k (core.made k)) (n - core.made k) ≡ point P k n =
     sym (after-add (rules P k) (opened P k) (core.made k) (n - core.made k)) ∙ ap (λ (x : ℕ). point P k x) is in
     subst (λ (m : Machine). NotAt m.comp p) same (later.never [])
-
--- the interval is a turn
-owns_turn : (P : Play) (core : Core) (k p : ℕ) → Invariant P core → k < core.count → Owns P (core.local (P.node k) p) k (P.node k) p → HasTurn P core k p
-owns_turn P core k p i lt o =
-    let own : version P (suc k) (P.node k) p ≡ version P k (P.node k) p + weight (P.decl k) p = version-own P k p in
-    let is : core.private k (P.node k) p ≡ version P (suc k) (P.node k) p = i.booked.private k (P.node k) p lt in
-    let from : version P k (P.node k) p ≤ core.local (P.node k) p = o.from in
-    let below : core.local (P.node k) p < version P (suc k) (P.node k) p = o.below in
-    record { admitted = lt; declared = owns_declares P (core.local (P.node k) p) k p o; from = omega arith; below = omega arith }
 
 same_slot : (comp : Computation) (p q : ℕ) → IsNextAt comp p → IsNextAt comp q → p ≡ q
 same_slot comp p q a b =

@@ -1,5 +1,5 @@
 -- Something can always go on; and who can enter a box in a settled core.
-use Rattle.std.proofs.Common.{arith, ◌≡◌, ◌≢◌, ℕ, zero, suc, ◌+◌, ◌≤◌, ◌<◌, ◌⊎◌, inl, inr, refl, sym, ap, ◌∙◌, subst, List, [], ◌∷◌, map, Bool, true, false, ◌||◌, Some, None, ◌==◌, if◌then◌else◌}
+use Rattle.std.proofs.Common.{arith, ◌≡◌, ◌≢◌, ℕ, zero, suc, ◌≤◌, ◌<◌, ◌⊎◌, inl, inr, refl, sym, ap, ◌∙◌, subst, List, [], ◌∷◌, map, Bool, true, false, ◌||◌, Some, None, ◌==◌, if◌then◌else◌}
 use Rattle.std.proofs.lemmas.Bool.{eqb-true}
 use Rattle.std.proofs.lemmas.List.Folds.{list_any-append}
 use Rattle.std.specs.List.{list_any}
@@ -15,7 +15,7 @@ use Rattle.samoa_serial.specs.Alone.{next_of, next_step}
 use Rattle.samoa_invariant.specs.Play.{Play, version, attempts, table_of, point, Never, IsIdle}
 use Rattle.samoa_invariant.specs.State.{Core, Step, Quiet, HasTurn, IsNextAt, CanEnter, CanRelease, CanEnd, IsEnabled, IsForward, AllEnded, IsSettled, NothingOut, NoneEnters, IsLeastOpen, named}
 use Rattle.samoa_invariant.specs.Inv.{Meets, Invariant, IsDone, IsOutRightly}
-use Rattle.samoa_invariant.proofs.Versions.{same_or_not, in_order, if_else, version-own, all_before_past}
+use Rattle.samoa_invariant.proofs.Versions.{same_or_not, in_order, if_else, all_before_past}
 use Rattle.samoa_invariant.proofs.Points.{some_or_none}
 use Rattle.samoa_invariant.proofs.Ends.{idle_is_whole}
 use Rattle.samoa_invariant.proofs.Forms.{meets}
@@ -110,10 +110,9 @@ came P core k p i least w =
 has_turn : (P : Play) (core : Core) (k p : ℕ) → Invariant P core → IsLeastOpen core k → 0 < weight (P.decl k) p
     → core.local (P.node k) p < core.private k (P.node k) p → HasTurn P core k p
 has_turn P core k p i least w short =
-    let own : version P (suc k) (P.node k) p ≡ version P k (P.node k) p + weight (P.decl k) p = version-own P k p in
-    let is : core.private k (P.node k) p ≡ version P (suc k) (P.node k) p = i.booked.private k (P.node k) p least.admitted in
+    let low = i.booked.from k (P.node k) p least.admitted in
     let here : version P k (P.node k) p ≤ core.local (P.node k) p = came P core k p i least w in
-    record { admitted = least.admitted; declared = w; from = omega arith; below = short }
+    record { admitted = least.admitted; turn = record { from = omega arith; below = short } }
 
 -- with nothing left, a release or the end is due
 pub idle_goes_on : (P : Play) (core : Core) (k : ℕ) → Invariant P core → IsLeastOpen core k → (core.comp k).active ≡ []

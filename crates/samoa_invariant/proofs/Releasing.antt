@@ -12,7 +12,7 @@ use Rattle.samoa_invariant.specs.State.{CanEnd, CanRelease, Core, HasTurn, IsSet
 use Rattle.samoa_invariant.specs.Runs.{GoesOn, IsDue, IsRun, Trace, after_step, play, state, with_step}
 use Rattle.samoa_invariant.specs.Settling.{AreDue, EndsAll, EndsFirst, IsEnd, IsRelease, IsUnmoved, LeavesTheRest, ReleasesAll, ReleasesFirst, Settles, with_steps}
 use Rattle.samoa_invariant.proofs.Due.{after-due, due-after, run-with_steps, same-steps, with-more, with-none}
-use Rattle.samoa_invariant.proofs.Slots.{put-else, put-here, put_at-else, put_at-here, slot_or_not, turn_owns}
+use Rattle.samoa_invariant.proofs.Slots.{put-else, put-here, put_at-else, put_at-here, slot_or_not, turn_declares, turn_owns}
 use Rattle.samoa_invariant.proofs.Traces.{fewer, invariant, is_run-with_step, state-step}
 use Rattle.samoa_invariant.proofs.Versions.{in_order, owns_single, same_or_not, version-mono}
 
@@ -30,7 +30,7 @@ turn_elsewhere P core k p j q apart turn =
     let local : (release P core k p).local (P.node j) q ≡ core.local (P.node j) q = put_at-else core.local (P.node k) p (P.node j) q (core.private k (P.node k) p) apart in
     let from = turn.from in
     let below = turn.below in
-    record { admitted = turn.admitted; declared = turn.declared; from = omega arith; below = omega arith }
+    record { admitted = turn.admitted; turn = record { from = omega arith; below = omega arith } }
 
 -- a release stays enabled while another is made
 pub release_stays : (P : Play) (core : Core) (k p j q : ℕ) → Invariant P core → CanRelease P core k p → CanRelease P core j q → (j ≢ k) ⊎ (q ≢ p) → CanRelease P (release P core k p) j q
@@ -71,12 +71,12 @@ release_opens P core k p j q i can new = go (slot_or_not (P.node j) (P.node k) q
         let local : (release P core k p).local (P.node j) q ≡ core.local (P.node j) q = put_at-else core.local (P.node k) p (P.node j) q (core.private k (P.node k) p) apart in
         let from = new.turn.from in
         let below = new.turn.below in
-        inr (record { turn = record { admitted = new.turn.admitted; declared = new.turn.declared; from = omega arith; below = omega arith }; quiet = new.quiet })
+        inr (record { turn = record { admitted = new.turn.admitted; turn = record { from = omega arith; below = omega arith } }; quiet = new.quiet })
 
 -- an end enables no release and no other end
 pub end_releases : (P : Play) (core : Core) (k j q : ℕ) → CanRelease P (finish core k) j q → CanRelease P core j q
 end_releases P core k j q can = record {
-  turn = record { admitted = can.turn.admitted; declared = can.turn.declared; from = can.turn.from; below = can.turn.below };
+  turn = record { admitted = can.turn.admitted; turn = can.turn.turn };
   quiet = can.quiet;
 }
 
@@ -101,7 +101,7 @@ pub ended_releases : (P : Play) (core : Core) (k p : ℕ) → Invariant P core �
 ended_releases P core k p i ended can =
     let turn : HasTurn P core k p = can.turn in
     let done : IsDone P core k = i.ended k turn.admitted ended in
-    let past = done.past p turn.declared in
+    let past = done.past p (turn_declares P core k p i turn) in
     let mine = i.booked.private k (P.node k) p turn.admitted in
     let below = turn.below in
     omega arith
@@ -291,7 +291,7 @@ settles-leave t u run s =
 enter_settled : (P : Play) (core : Core) (k p : ℕ) → IsSettled P core → IsSettled P (enter P core k p)
 enter_settled P core k p s = record {
   released = λ j q can. s.released j q (record {
-    turn = record { admitted = can.turn.admitted; declared = can.turn.declared; from = can.turn.from; below = can.turn.below };
+    turn = record { admitted = can.turn.admitted; turn = can.turn.turn };
     quiet = can.quiet;
   });
   ended = λ j can. s.ended j (record { admitted = can.admitted; not_ended = can.not_ended; idle = can.idle; past = can.past });
@@ -300,7 +300,7 @@ enter_settled P core k p s = record {
 abandon_settled : (P : Play) (core : Core) (k p : ℕ) → IsSettled P core → IsSettled P (abandon P core k p)
 abandon_settled P core k p s = record {
   released = λ j q can. s.released j q (record {
-    turn = record { admitted = can.turn.admitted; declared = can.turn.declared; from = can.turn.from; below = can.turn.below };
+    turn = record { admitted = can.turn.admitted; turn = can.turn.turn };
     quiet = can.quiet;
   });
   ended = λ j can. s.ended j (record { admitted = can.admitted; not_ended = can.not_ended; idle = can.idle; past = can.past });
@@ -309,7 +309,7 @@ abandon_settled P core k p s = record {
 abandon_next_settled : (P : Play) (core : Core) (k : ℕ) (o : Option (Call × Moment)) → IsSettled P core → IsSettled P (abandon_next P core k o)
 abandon_next_settled P core k None s = record {
   released = λ j q can. s.released j q (record {
-    turn = record { admitted = can.turn.admitted; declared = can.turn.declared; from = can.turn.from; below = can.turn.below };
+    turn = record { admitted = can.turn.admitted; turn = can.turn.turn };
     quiet = can.quiet;
   });
   ended = λ j can. s.ended j (record { admitted = can.admitted; not_ended = can.not_ended; idle = can.idle; past = can.past });

@@ -6,7 +6,7 @@ use Rattle.samoa_model.specs.Allowed.{weight}
 use Rattle.samoa_invariant.specs.Play.{Play, version, is_bound, attempts, point, Never, NotYet, done}
 use Rattle.samoa_invariant.specs.State.{Core, put, HasTurn}
 use Rattle.samoa_invariant.specs.Inv.{Owns, Invariant}
-use Rattle.samoa_invariant.proofs.Versions.{same_or_not, version-own}
+use Rattle.samoa_invariant.proofs.Versions.{owns_declares, same_or_not}
 
 and_false : (b : Bool) → (b && false) ≡ false
 and_false true = refl
@@ -55,9 +55,19 @@ pub at_slot-same : (P : Play) (j q x y n m : ℕ) (s t : State) → x ≡ y → 
 at_slot-same P j q x y n m s t e f g h =
     subst (λ (a : ℕ). AtSlot P j q a m t) e (subst (λ (b : ℕ). AtSlot P j q x b t) f (subst (λ (u : State). AtSlot P j q x n u) g h))
 
--- a turn by the private version is the interval
+-- a turn is that of the interval
 pub turn_owns : (P : Play) (core : Core) (k p : ℕ) → Invariant P core → HasTurn P core k p → Owns P (core.local (P.node k) p) k (P.node k) p
 turn_owns P core k p i t =
-    let is : core.private k (P.node k) p ≡ version P (suc k) (P.node k) p = i.booked.private k (P.node k) p t.admitted in
-    let own : version P (suc k) (P.node k) p ≡ version P k (P.node k) p + weight (P.decl k) p = version-own P k p in
+    let low = i.booked.from k (P.node k) p t.admitted in
+    let high = i.booked.private k (P.node k) p t.admitted in
     record { from = omega (arith, t.from); below = omega (arith, t.below) }
+
+pub owns_turn : (P : Play) (core : Core) (k p : ℕ) → Invariant P core → k < core.count → Owns P (core.local (P.node k) p) k (P.node k) p → HasTurn P core k p
+owns_turn P core k p i lt o =
+    let low = i.booked.from k (P.node k) p lt in
+    let high = i.booked.private k (P.node k) p lt in
+    record { admitted = lt; turn = record { from = omega (arith, o.from); below = omega (arith, o.below) } }
+
+-- who has its turn declares the microprotocol
+pub turn_declares : (P : Play) (core : Core) (k p : ℕ) → Invariant P core → HasTurn P core k p → 0 < weight (P.decl k) p
+turn_declares P core k p i t = owns_declares P (core.local (P.node k) p) k p (turn_owns P core k p i t)

@@ -25,7 +25,7 @@ out_changes : (P : Play) (core core' : Core) → Invariant P core
     → core' ≡ record core { out = core'.out; stopped = core'.stopped } → OutRightly P core' → Invariant P core'
 out_changes P core core' i e o =
     subst (λ (x : Core). Invariant P x) (sym e) (record {
-      booked = record { present = i.booked.present; table = i.booked.table; private = i.booked.private };
+      booked = record { present = i.booked.present; table = i.booked.table; from = i.booked.from; private = i.booked.private };
       versions = record { global = i.versions.global; local = i.versions.local; counted = i.versions.counted };
       not_yet = i.not_yet;
       no_more = i.no_more;
@@ -80,7 +80,7 @@ enter_keeps P core k p i can = out_changes P core (enter P core k p) i refl out
 
 pub end_keeps : (P : Play) (core : Core) (k : ℕ) → Invariant P core → CanEnd P core k → Invariant P (finish core k)
 end_keeps P core k i can = record {
-  booked = record { present = i.booked.present; table = i.booked.table; private = i.booked.private };
+  booked = record { present = i.booked.present; table = i.booked.table; from = i.booked.from; private = i.booked.private };
   versions = record { global = i.versions.global; local = i.versions.local; counted = i.versions.counted };
   not_yet = i.not_yet;
   no_more = i.no_more;
@@ -103,7 +103,7 @@ end_keeps P core k i can = record {
 
 clear_keeps : (P : Play) (core : Core) → Invariant P core → Invariant P (record core { cells = zero })
 clear_keeps P core i = record {
-  booked = record { present = i.booked.present; table = i.booked.table; private = i.booked.private };
+  booked = record { present = i.booked.present; table = i.booked.table; from = i.booked.from; private = i.booked.private };
   versions = record { global = i.versions.global; local = i.versions.local; counted = i.versions.counted };
   not_yet = i.not_yet;
   no_more = i.no_more;

@@ -11,12 +11,13 @@ use Rattle.samoa_model.specs.Scripts.{Table}
 use Rattle.samoa_serial.specs.World.{attempts_of}
 use Rattle.samoa_model.specs.Allowed.{weight}
 use Rattle.samoa_model.specs.Paths.{MayRelease, handlers_by}
+use Rattle.samoa_versions.specs.Counters.{IsTurn}
 use Rattle.samoa_invariant.specs.Slots.{At, put_at}
 use Rattle.samoa_invariant.specs.Play.{Play, turns, weight_at, is_bound, ends_call, IsIdle}
 
 -- the core: how many were admitted; the present tables by node; by slot the global and local versions, the boxes and
--- to whom they are out; the cells held; whether a step was abandoned; and by computation its table, its private
--- versions, its calls, how many of its handler steps were made, and whether it has ended
+-- to whom they are out; the cells held; whether a step was abandoned; and by computation its table, the
+-- interval of versions that it holds at each slot, from one up to below the private one, its calls, how many of its handler steps were made, and whether it has ended
 pub record Core : Type 0 where
   pub count : ℕ
   pub present : ℕ → Table
@@ -27,6 +28,7 @@ pub record Core : Type 0 where
   pub cells : ℕ
   pub stopped : Bool
   pub table : ℕ → Table
+  pub from : ℕ → At ℕ
   pub private : ℕ → At ℕ
   pub comp : ℕ → Computation
   pub made : ℕ → ℕ
@@ -60,6 +62,7 @@ admit P core =
       present = put core.present (P.node k) new;
       table = put core.table k new;
       global = λ v p. core.global v p + weight_at P k v p;
+      from = put core.from k core.global;
       private = put core.private k (λ v p. core.global v p + weight_at P k v p);
       comp = put core.comp k (start (attempts_of (P.decl k) new) (P.budget k) (P.root k) (P.args k));
       made = put core.made k zero;
@@ -121,12 +124,11 @@ made_by P core (Step.Release k p) = release P core k p
 made_by P core (Step.End k) = finish core k
 made_by P core Step.Clear = record core { cells = zero }
 
--- computation k has its turn at p of its node
+-- computation k has its turn at p of its node: the local version is one of those that it holds there
 pub record HasTurn (P : Play) (core : Core) (k p : ℕ) : Type 0 where
   pub admitted : k < core.count
-  pub declared : 0 < weight (P.decl k) p
-  pub from : core.private k (P.node k) p ≤ core.local (P.node k) p + weight (P.decl k) p
-  pub below : core.local (P.node k) p < core.private k (P.node k) p
+  pub turn : IsTurn (core.local (P.node k) p) (core.from k (P.node k) p) (core.private k (P.node k) p)
+  pub open turn use *
 
 -- there is one more external event, and its cells fit
 pub record CanAdmit (P : Play) (core : Core) : Type 0 where
@@ -197,6 +199,7 @@ empty P = record {
   cells = zero;
   stopped = false;
   table = λ k. [];
+  from = λ k v p. zero;
   private = λ k v p. zero;
   comp = λ k. record { active = []; books = record { units = zero; waiting = []; entries = [] }; answer = None };
   made = λ k. zero;
