@@ -172,7 +172,7 @@ pub record IsFresh (fs : Fields) (ext : Ext) (r : Computing) : Type 0 where
   pub turns : r.turns ≡ turns_taken (decl_of fs.script ext).decl (length fs.script.micros) ext.node.0 fs.global (length fs.script.micros)
   pub calls : r.calls ≡ started fs.script fs.tables ext
   pub none_waits : r.calls.comp.waiting ≡ []
-  pub open : r.ended ≡ false
+  pub unended : r.ended ≡ false
 
 -- the present table is that of the last epoch, and an admission by which no binding changes keeps it
 same-table : (fs : Fields) (ext : Ext) (node : NodeId) (epoch : ℕ) → Kept fs → node.0 < fs.script.nodes → epoch + 1 ≡ length (epochs_of fs.tables node)
@@ -222,7 +222,7 @@ runs-new fs ext r kept known is =
         };
         comp = comp;
         waiting = ap (λ (h : Held). h.waiting_handlers) is.calls ∙ sym (ap (λ (ws : List Waiting). handlers_of (after.table n) ws) waits);
-        ended = is.open ∙ sym (put-here {A = Bool} core.ended core.count n false (sym all));
+        ended = is.unended ∙ sym (put-here {A = Bool} core.ended core.count n false (sym all));
       };
       table = record {
         epoch = epoch;

@@ -8,28 +8,39 @@ use Rattle.samoa_serial.specs.declared.call.Waiting.{Waiting}
 use Rattle.samoa_invariant.specs.Inv.{Invariant, IsDone}
 use Rattle.samoa_invariant.specs.Play.{point}
 use Rattle.samoa_invariant.specs.State as model
-use Rattle.samoa_invariant.specs.Runs.{IsRun, IsServed, Trace, cleared, ext_at, play, served_at, state, with_clear}
+use Rattle.samoa_invariant.specs.Runs.{IsServed, Trace, cleared, ext_at, play, served_at, state, with_clear}
 use Rattle.samoa_invariant.proofs.Traces.{held_not_cleared, invariant, is_run-with_clear, served, state-clear}
 use Rattle.samoa_core.specs.Later.{IsStill}
 use Rattle.samoa_core.specs.Room.{to_come}
+use Rattle.samoa_core.specs.Since.{cleared_comps}
+use Rattle.samoa_core.specs.Sound.{IsSound}
 use Rattle.samoa_core.specs.Kept.{Fields, Holds, Kept, trace_of}
 use Rattle.samoa_core.proofs.Ended.{ended-come}
 use Rattle.samoa_core.proofs.Rules.{decl-of}
 use Rattle.samoa_core.proofs.Since.{cleared-clear}
 
--- a computation that has ended has its answer
-pub ending_is : (t : Trace) (comp : ℕ) → IsRun t → 0 < comp → comp ≤ (state t).count → (state t).ended (comp - 1) ≡ true
+-- a computation that has ended has the entries and the answer of the serial run
+served_is : (t : Trace) (comp : ℕ) → IsSound t → cleared_comps t < comp → comp ≤ length t.exts → (state t).ended (comp - 1) ≡ true → IsServed t comp
+served_is t comp sound since most ended =
+    let all : (state t).count ≡ length t.exts = sound.all in
+    served t comp sound.run (omega (arith, since)) (omega (arith, most, all)) ended
+
+pub entries_are : (t : Trace) (comp : ℕ) → IsSound t → cleared_comps t < comp → comp ≤ length t.exts → (state t).ended (comp - 1) ≡ true
+    → ((state t).comp (comp - 1)).entries ≡ (served_at t comp).world.entries
+entries_are t comp sound since most ended = (served_is t comp sound since most ended).entries
+
+pub ending_is : (t : Trace) (comp : ℕ) → IsSound t → cleared_comps t < comp → comp ≤ length t.exts → (state t).ended (comp - 1) ≡ true
     → ending_of ((state t).comp (comp - 1)) ≡ Some (served_at t comp).value
-ending_is t comp run first admitted ended =
+ending_is t comp sound since most ended =
     let k : ℕ = comp - 1 in
-    let i : Invariant (play t) (state t) = invariant t run in
-    let lt : k < (state t).count = omega (arith, first, admitted) in
+    let all : (state t).count ≡ length t.exts = sound.all in
+    let i : Invariant (play t) (state t) = invariant t sound.run in
+    let lt : k < (state t).count = omega (arith, since, most, all) in
     let d : IsDone (play t) (state t) k = i.ended k lt ended in
     let is : (state t).comp k ≡ (point (play t) k ((state t).made k)).comp = i.calls.comp k lt in
-    let s : IsServed t comp = served t comp run first admitted ended in
     let active : ((state t).comp k).active ≡ [] = ap (λ (c : Computation). c.active) is ∙ d.idle.active in
     let waiting : ((state t).comp k).waiting ≡ [] = ap (λ (c : Computation). c.waiting) is ∙ d.idle.waiting in
-    at ((state t).comp k).active ((state t).comp k).waiting ((state t).comp k).answer active waiting ∙ s.ending
+    at ((state t).comp k).active ((state t).comp k).waiting ((state t).comp k).answer active waiting ∙ (served_is t comp sound since most ended).ending
   where
     at : (xs : List Active) (ws : List Waiting) (answer : Option Ending) → xs ≡ [] → ws ≡ [] → ending_at xs ws answer ≡ answer
     at [] [] answer e f = refl

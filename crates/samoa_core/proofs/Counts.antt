@@ -50,12 +50,12 @@ unended-admit core after count ended =
 
 -- and one less
 pub unended-end : (core : model.Core) (k : ℕ) → k < core.count → core.ended k ≡ false → unended (model.finish core k) + 1 ≡ unended core
-unended-end core k lt open =
+unended-end core k lt running =
     let at : sum_to (λ j. to_end (put core.ended k true j)) core.count + 1 ≡ sum_to (λ j. to_end (core.ended j)) core.count + 0 =
     sum-at (λ j. to_end (core.ended j)) (λ j. to_end (put core.ended k true j)) core.count k 1 0 lt
     (λ j less ne. ap to_end (put-else {A = Bool} core.ended k j true ne))
     (let mine : to_end (put core.ended k true k) ≡ 0 = ap to_end (put-here {A = Bool} core.ended k k true refl) in
-    let was : to_end (core.ended k) ≡ 1 = ap to_end open in
+    let was : to_end (core.ended k) ≡ 1 = ap to_end running in
     omega (arith, mine, was)) in
     omega (arith, at)
 

@@ -1,6 +1,7 @@
 -- What is known of a core by its invariant.
 use Rattle.std.proofs.Common.{arith, ◌≡◌, ◌≢◌, ◌⊎◌, inl, inr, ℕ, ◌-◌, ◌<◌, ◌≤◌, refl, sym, ap, subst, ◌∙◌, List, [], ◌∷◌, length, true, false, Option, Some, None}
 use Rattle.std.specs.Prelude.{option_map}
+use Rattle.std.specs.Option.{IfSome}
 use Rattle.samoa_model.specs.Allowed.{weight}
 use Rattle.samoa_model.specs.declared.handler.Moment.{Moment}
 use Rattle.samoa_model.specs.declared.ids.MicroId.{MicroId}
@@ -195,3 +196,10 @@ enter-due t k call m run next turn home running = record {
         let here : (state t).out ((play t).node k) call.handler.micro.0 ≡ Some k = ap (λ (u : ℕ). (state t).out u call.handler.micro.0) (sym o.node) ∙ (ap (λ (r : ℕ). (state t).out v r) at ∙ out) in
         let no : None ≡ Some k = sym home ∙ here in
         cc
+
+pub moments-within : (t : Trace) (k : ℕ) → IsSound t → k < (state t).count → IfSome (next_moment ((state t).comp k)) (λ step. step.0.0 < length t.script.micros)
+moments-within t k sound lt = go (next_moment ((state t).comp k)) refl
+  where
+    go : (step : Option (MicroId × Moment)) → next_moment ((state t).comp k) ≡ step → IfSome step (λ (s : MicroId × Moment). s.0.0 < length t.script.micros)
+    go None e = tt
+    go (Some step) e = let all : (state t).count ≡ length t.exts = sound.all in moment-within t k step sound (omega (arith, lt, all)) e

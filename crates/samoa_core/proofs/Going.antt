@@ -1,10 +1,11 @@
 -- What each step keeps of the fields of a core.
-use Rattle.std.proofs.Common.{arith, ◌≡◌, ◌≢◌, ◌⊎◌, inl, inr, ℕ, ◌+◌, ◌-◌, ◌*◌, ◌<◌, ◌≤◌, refl, sym, ap, subst, ◌∙◌, List, [], ◌∷◌, length, get_or, set, Bool, true, false, Option, Some, None}
-use Rattle.std.specs.Prelude.{slice_get}
+use Rattle.std.proofs.Common.{arith, ◌≡◌, ◌≢◌, ◌⊎◌, ◌↔◌, inl, inr, ℕ, ◌+◌, ◌-◌, ◌*◌, ◌<◌, ◌≤◌, refl, sym, ap, subst, ◌∙◌, List, [], ◌∷◌, length, get_or, set, Bool, true, false, Option, Some, None}
+use Rattle.std.specs.Prelude.{is_some, slice_get}
 use Rattle.std.specs.Option.{IfSome}
+use Rattle.std.proofs.lemmas.Nat.{mul-le}
 use Rattle.samoa_model.specs.Allowed.{weight}
 use Rattle.samoa_model.specs.Range.{IsExtOf}
-use Rattle.samoa_model.specs.Scripts.{Table, decl_of}
+use Rattle.samoa_model.specs.Scripts.{Table, decl_at, decl_of}
 use Rattle.samoa_model.specs.declared.handler.Moment.{Moment}
 use Rattle.samoa_model.specs.declared.handler.Outcome.{Outcome}
 use Rattle.samoa_model.specs.declared.ids.MicroId.{MicroId}
@@ -35,15 +36,15 @@ use Rattle.samoa_core.specs.Forms.{risen}
 use Rattle.samoa_core.specs.Grids.{Grid}
 use Rattle.samoa_core.specs.Leaving.{TakesOutcome, taken}
 use Rattle.samoa_core.specs.Places.{away_in, seen_in, slot_in, unless_out}
-use Rattle.samoa_core.specs.Running.{Computing, turn_of}
+use Rattle.samoa_core.specs.Running.{Computing, IsRunning, turn_of}
 use Rattle.samoa_core.specs.declared.running.Interval.{Interval}
 use Rattle.samoa_core.specs.Since.{cleared_comps}
 use Rattle.samoa_core.specs.Slots.{Slotted}
 use Rattle.samoa_core.specs.Turns.{HasCome, IsNext, box_of}
 use Rattle.samoa_core.specs.Kept.{Fields, Holds, Kept, Runs, trace_of, unended}
-use Rattle.samoa_core.proofs.Counts.{away-back, away-out, unended-end}
-use Rattle.samoa_core.proofs.Facts.{next-declared, same-call}
-use Rattle.samoa_core.proofs.Grids.{each-set, grid-put, grid-set, length-set}
+use Rattle.samoa_core.proofs.Counts.{away-back, away-most, away-out, unended-end}
+use Rattle.samoa_core.proofs.Facts.{next-declared, next-within, same-call, sound}
+use Rattle.samoa_core.proofs.Grids.{each-set, grid-put, grid-set, item_at, length-set}
 use Rattle.samoa_core.proofs.Keeps.{kept-with, moved, place-within, runs-at, runs-on}
 use Rattle.samoa_core.proofs.Names.{named-step}
 use Rattle.samoa_core.proofs.Rising.{grid-risen}
@@ -55,12 +56,20 @@ use Rattle.samoa_core.proofs.Versioned.{local-is, out-below, slot-within}
 pub record AtStep (t : Trace) (comp p : ℕ) (step : Step) (node : NodeId) : Type 0 where
   pub due : IsDue t step
   pub since : cleared_comps t < comp
-  pub most : comp ≤ length t.exts
+  pub admitted : comp - 1 < (state t).count
   pub within : p < length t.script.micros
-  pub node : node ≡ (ext_at t.exts (comp - 1)).node
+  pub is_at : node ≡ (ext_at t.exts (comp - 1)).node
 
-node-within : (fs : Fields) (comp : ℕ) → Kept fs → cleared_comps (trace_of fs) < comp → comp ≤ length fs.exts → (ext_at fs.exts (comp - 1)).node.0 < fs.script.nodes
-node-within fs comp kept since most = (kept.known (comp - 1) (omega (arith, since, most))).node
+pub at-step : (fs : Fields) (t : Trace) (comp p : ℕ) (step : Step) (r : Computing) → trace_of fs ≡ t → IsDue t step → cleared_comps t < comp → p < length t.script.micros
+    → IsRunning t.script t.exts (state t) (comp - 1) r → AtStep (trace_of fs) comp p step r.node
+at-step fs t comp p step r view due since within is =
+    subst (λ (x : Trace). AtStep x comp p step r.node) (sym view) (record { due = due; since = since; admitted = is.admitted; within = within; is_at = is.node })
+
+is_there : (fs : Fields) (comp : ℕ) → Kept fs → comp - 1 < (state (trace_of fs)).count → comp - 1 < length fs.exts
+is_there fs comp kept lt = let all : (state (trace_of fs)).count ≡ length fs.exts = kept.holds.admitted in omega (arith, lt, all)
+
+node-within : (fs : Fields) (comp : ℕ) → Kept fs → comp - 1 < (state (trace_of fs)).count → (ext_at fs.exts (comp - 1)).node.0 < fs.script.nodes
+node-within fs comp kept lt = (kept.known (comp - 1) (is_there fs comp kept lt)).node
 
 -- a box is written into its slot
 boxes-set : (fs : Fields) (after : model.Core) (v p : ℕ) (node : NodeId) (x : Option Seen) → Kept fs → v < fs.script.nodes → p < length fs.script.micros → node.0 ≡ v
@@ -79,10 +88,33 @@ box-home fs node v p kept lt below is home =
     ∙ (kept.holds.slots.value v p lt below
     ∙ ap (λ (o : Option ℕ). Some (unless_out o (seen_in fs.script v p ((state (trace_of fs)).boxes v p)))) home))
 
+pub slot-home : (fs : Fields) (t : Trace) (node : NodeId) (p : ℕ) → trace_of fs ≡ t → Kept fs → node.0 < t.script.nodes → p < length t.script.micros → (state t).out node.0 p ≡ None
+    → slice_get fs.slots.boxes (node.0 * fs.slots.micros + p) ≡ Some (Some (seen_in fs.script node.0 p ((state (trace_of fs)).boxes node.0 p)))
+slot-home fs t node p view kept lt below home =
+    box-home fs node node.0 p kept (subst (λ (x : Trace). node.0 < x.script.nodes) (sym view) lt) (subst (λ (x : Trace). p < length x.script.micros) (sym view) below) refl
+    (subst (λ (x : Trace). (state x).out node.0 p ≡ None) (sym view) home)
+
+-- whether a box is home
+pub home-test : (fs : Fields) (t : Trace) (node : NodeId) (p : ℕ) (b : Bool) → trace_of fs ≡ t → Kept fs → node.0 < t.script.nodes → p < length t.script.micros
+    → ((slot : Option Seen) → slice_get fs.slots.boxes (node.0 * fs.slots.micros + p) ≡ Some slot → b ≡ is_some slot) → (b ≡ true) ↔ ((state t).out node.0 p ≡ None)
+home-test fs t node p b view kept lt below test =
+    subst (λ (x : Trace). (b ≡ true) ↔ ((state x).out node.0 p ≡ None)) view (go ((state (trace_of fs)).out node.0 p) refl)
+  where
+    is : b ≡ is_some (slot_in fs.script (state (trace_of fs)) node.0 p)
+    is = test (slot_in fs.script (state (trace_of fs)) node.0 p)
+        (ap (λ (n : ℕ). slice_get fs.slots.boxes (node.0 * n + p)) kept.micros
+        ∙ kept.holds.slots.value node.0 p (subst (λ (x : Trace). node.0 < x.script.nodes) (sym view) lt) (subst (λ (x : Trace). p < length x.script.micros) (sym view) below))
+
+    go : (o : Option ℕ) → (state (trace_of fs)).out node.0 p ≡ o → (b ≡ true) ↔ ((state (trace_of fs)).out node.0 p ≡ None)
+    go None e = ((λ yes. e), (λ none. is ∙ ap (λ (o : Option ℕ). is_some (unless_out o (seen_in fs.script node.0 p ((state (trace_of fs)).boxes node.0 p)))) e))
+    go (Some k) e =
+        let out : b ≡ false = is ∙ ap (λ (o : Option ℕ). is_some (unless_out o (seen_in fs.script node.0 p ((state (trace_of fs)).boxes node.0 p)))) e in
+        ((λ yes. cc), (λ none. cc))
+
 pub box-here : (fs : Fields) (comp p : ℕ) (node : NodeId) → Kept fs → AtStep (trace_of fs) comp p (Step.Enter comp p) node
     → slice_get fs.slots.boxes (node.0 * fs.slots.micros + p) ≡ Some (Some (box_of (trace_of fs) comp p))
 box-here fs comp p node kept at =
-    box-home fs node (ext_at fs.exts (comp - 1)).node.0 p kept (node-within fs comp kept at.since at.most) at.within (ap (λ (n : NodeId). n.0) at.node) at.due.enabled.home
+    box-home fs node (ext_at fs.exts (comp - 1)).node.0 p kept (node-within fs comp kept at.admitted) at.within (ap (λ (n : NodeId). n.0) at.is_at) at.due.enabled.home
 
 pub kept-enter : (fs : Fields) (comp p : ℕ) (node : NodeId) → Kept fs → AtStep (trace_of fs) comp p (Step.Enter comp p) node
     → Kept (moved fs (Step.Enter comp p) fs.local (record fs.slots { boxes = set fs.slots.boxes (node.0 * fs.slots.micros + p) None }) fs.running fs.unended (fs.away + 1) fs.stopped)
@@ -91,7 +123,7 @@ kept-enter fs comp p node kept at =
     let k : ℕ = comp - 1 in
     let v : ℕ = (ext_at fs.exts k).node.0 in
     let after : model.Core = model.enter (play (trace_of fs)) core k p in
-    let lt : v < fs.script.nodes = node-within fs comp kept at.since at.most in
+    let lt : v < fs.script.nodes = node-within fs comp kept at.admitted in
     let home : core.out v p ≡ None = at.due.enabled.home in
     kept-with fs (Step.Enter comp p) fs.local (record fs.slots { boxes = set fs.slots.boxes (node.0 * fs.slots.micros + p) None }) fs.running fs.unended (fs.away + 1) fs.stopped kept at.due tt kept.micros
     (record {
@@ -101,7 +133,7 @@ kept-enter fs comp p node kept at =
       present = kept.holds.present;
       global = kept.holds.global;
       local = kept.holds.local;
-      slots = boxes-set fs after v p node None kept lt at.within (ap (λ (n : NodeId). n.0) at.node)
+      slots = boxes-set fs after v p node None kept lt at.within (ap (λ (n : NodeId). n.0) at.is_at)
           (ap (λ (o : Option ℕ). unless_out o (seen_in fs.script v p (core.boxes v p))) (put_at-here {A = Option ℕ} core.out v p v p (Some k) refl refl))
           (λ i j ne. ap (λ (o : Option ℕ). unless_out o (seen_in fs.script i j (core.boxes i j))) (put_at-else {A = Option ℕ} core.out v p i j (Some k) ne));
       size = kept.holds.size;
@@ -148,10 +180,10 @@ takes fs comp p node held o versions r is_versions kept comes runs =
     let v : ℕ = (ext_at fs.exts k).node.0 in
     let call : Call = comes.come.call in
     let q : ℕ = call.handler.micro.0 in
-    let lt : k < length fs.exts = (let since = at.since in let most = at.most in omega (arith, since, most)) in
+    let lt : k < length fs.exts = is_there fs comp kept at.admitted in
     let head = head_is (core.comp k) call comes.come.moment comes.come.next in
     let inside : q < length fs.script.micros = subst (λ (n : ℕ). n < length fs.script.micros) (sym comes.come.is_at) at.within in
-    let lt_node : v < fs.script.nodes = node-within fs comp kept at.since at.most in
+    let lt_node : v < fs.script.nodes = node-within fs comp kept at.admitted in
     let out : core.out v q ≡ Some k = out_is fs comp call comes.come.moment kept at.due.enabled comes.come.next in
     rw (is_versions, runs.is.comp, runs.is.waiting, runs.is.decl, runs.table.table) (record {
       decl = decl-within fs.script (ext_at fs.exts k) kept.in_range (kept.known k lt);
@@ -232,7 +264,7 @@ kept-leave fs comp p node held o r kept comes at_place named =
     let is : stepped P core (Step.Leave comp) ≡ after = ap (λ (x : Option (Call × Moment)). model.leave_next P core k x) comes.come.next in
     let same : q ≡ p = comes.come.is_at in
     let inside : q < length fs.script.micros = subst (λ (n : ℕ). n < length fs.script.micros) (sym same) at.within in
-    let lt : v < fs.script.nodes = node-within fs comp kept at.since at.most in
+    let lt : v < fs.script.nodes = node-within fs comp kept at.admitted in
     let runs : Runs fs.script fs.tables fs.exts core k r = runs-at fs comp r kept at.since at_place in
     let out : core.out v q ≡ Some k = out_is fs comp c m kept at.due.enabled comes.come.next in
     let result : State × Outcome = P.step k c.handler.micro (core.boxes v q) m in
@@ -244,7 +276,6 @@ kept-leave fs comp p node held o r kept comes at_place named =
     let next : Fields = moved fs (Step.Leave comp) local slots running fs.unended (fs.away - 1) fs.stopped in
     let first : fs.first ≡ cleared_comps (trace_of fs) = kept.first in
     let since = at.since in
-    let most = at.most in
     let holds : Holds next after = record {
       admitted = kept.holds.admitted;
       held = kept.holds.held;
@@ -254,7 +285,7 @@ kept-leave fs comp p node held o r kept comes at_place named =
       local = rw gives (grid-risen (P.decl k) c result.1 fs.script.nodes (length fs.script.micros) fs.local core.local v lt inside
           (next-declared (trace_of fs) k c m kept.is_run runs.is.admitted comes.come.next) kept.holds.local);
       slots = rw box (subst (λ (n : ℕ). Grid fs.script.nodes (length fs.script.micros) (set fs.slots.boxes (node.0 * fs.slots.micros + n) (Some (seen_in fs.script v q result.0))) (slot_in fs.script after)) same
-          (boxes-set fs after v q node (Some (seen_in fs.script v q result.0)) kept lt inside (ap (λ (n : NodeId). n.0) at.node)
+          (boxes-set fs after v q node (Some (seen_in fs.script v q result.0)) kept lt inside (ap (λ (n : NodeId). n.0) at.is_at)
           (slot-back-here fs.script core v q result.0) (λ i j ne. slot-back fs.script core v q i j result.0 ne)));
       size = length-set fs.running (k - fs.first) (taken fs.script fs.tables r o) ∙ kept.holds.size;
       running = each-set fs.running (k - fs.first) (taken fs.script fs.tables r o) (λ i x. Runs fs.script fs.tables fs.exts after (fs.first + i) x)
@@ -289,7 +320,7 @@ kept-abandon fs comp p node held kept back =
     let after : model.Core = model.abandon P core k p in
     let is : stepped P core (Step.Abandon comp) ≡ after =
     ap (λ (x : Option (Call × Moment)). model.abandon_next P core k x) back.next.next ∙ ap (λ (n : ℕ). model.abandon P core k n) back.next.is_at in
-    let lt : v < fs.script.nodes = node-within fs comp kept at.since at.most in
+    let lt : v < fs.script.nodes = node-within fs comp kept at.admitted in
     let out : core.out v p ≡ Some k = subst (λ (n : ℕ). core.out v n ≡ Some k) back.next.is_at (out_is fs comp back.next.call back.moment kept at.due.enabled back.next.next) in
     let slots : Slotted = record fs.slots { boxes = set fs.slots.boxes (node.0 * fs.slots.micros + p) (Some held) } in
     let next : Fields = moved fs (Step.Abandon comp) fs.local slots fs.running fs.unended (fs.away - 1) true in
@@ -300,7 +331,7 @@ kept-abandon fs comp p node held kept back =
       present = kept.holds.present;
       global = kept.holds.global;
       local = kept.holds.local;
-      slots = boxes-set fs after v p node (Some held) kept lt at.within (ap (λ (n : NodeId). n.0) at.node)
+      slots = boxes-set fs after v p node (Some held) kept lt at.within (ap (λ (n : NodeId). n.0) at.is_at)
           (ap (λ (x : Option ℕ). unless_out x (seen_in fs.script v p (core.boxes v p))) (put_at-here {A = Option ℕ} core.out v p v p None refl refl) ∙ ap (λ (x : Seen). Some x) (sym back.next.before))
           (λ i j ne. ap (λ (x : Option ℕ). unless_out x (seen_in fs.script i j (core.boxes i j))) (put_at-else {A = Option ℕ} core.out v p i j None ne));
       size = kept.holds.size;
@@ -323,7 +354,7 @@ kept-release fs comp p x node kept at e =
     let k : ℕ = comp - 1 in
     let v : ℕ = (play (trace_of fs)).node k in
     let after : model.Core = model.release (play (trace_of fs)) core k p in
-    let is : node.0 ≡ v = ap (λ (n : NodeId). n.0) at.node in
+    let is : node.0 ≡ v = ap (λ (n : NodeId). n.0) at.is_at in
     kept-with fs (Step.Release comp p) (set fs.local (node.0 * length fs.script.micros + p) x) fs.slots fs.running fs.unended fs.away fs.stopped kept at.due tt kept.micros
     (record {
       admitted = kept.holds.admitted;
@@ -331,7 +362,7 @@ kept-release fs comp p x node kept at e =
       within = kept.holds.within;
       present = kept.holds.present;
       global = kept.holds.global;
-      local = rw (is, e) (grid-put fs.script.nodes (length fs.script.micros) fs.local core.local v p (core.private k v p) (node-within fs comp kept at.since at.most) at.within kept.holds.local);
+      local = rw (is, e) (grid-put fs.script.nodes (length fs.script.micros) fs.local core.local v p (core.private k v p) (node-within fs comp kept at.admitted) at.within kept.holds.local);
       slots = kept.holds.slots;
       size = kept.holds.size;
       running = λ i r there. let old = kept.holds.running i r there in runs-on fs.script fs.tables fs.exts fs.exts core after (fs.first + i) r old.is.admitted refl (λ u q. refl) refl refl refl old;
@@ -349,11 +380,11 @@ turn_is fs comp p node slot turn kept at is_slot is_turn =
     let core : model.Core = state (trace_of fs) in
     let k : ℕ = comp - 1 in
     let v : ℕ = (play (trace_of fs)).node k in
-    let lt : v < fs.script.nodes = node-within fs comp kept at.since at.most in
+    let lt : v < fs.script.nodes = node-within fs comp kept at.admitted in
     let from = at.due.enabled.turn.from in
     let below = at.due.enabled.turn.below in
     let here = local-is fs v p kept lt at.within in
-    rw (is_turn, is_slot, ap (λ (n : NodeId). n.0) at.node)
+    rw (is_turn, is_slot, ap (λ (n : NodeId). n.0) at.is_at)
     (slot-within fs v p kept lt at.within, record { from = omega (arith, here, from); below = omega (arith, here, below) })
 
 pub kept-end : (fs : Fields) (comp : ℕ) (r : Computing) → Kept fs → IsDue (trace_of fs) (Step.End comp) → cleared_comps (trace_of fs) < comp
@@ -400,3 +431,64 @@ kept-end fs comp r kept due since there =
       away = kept.holds.away;
       stopped = kept.holds.stopped;
     })
+
+-- how many are out and unended
+pub away-fits : (fs : Fields) → Kept fs → fs.away ≤ 192
+away-fits fs kept =
+    let is : fs.away ≡ away_in fs.script (state (trace_of fs)) = kept.holds.away in
+    let most : away_in fs.script (state (trace_of fs)) ≤ fs.script.nodes * (length fs.script.micros * 1) = away-most fs.script (state (trace_of fs)) in
+    let nodes : fs.script.nodes ≤ 8 = kept.in_range.few_nodes in
+    let micros : length fs.script.micros ≤ 24 = kept.in_range.few_micros in
+    let all : fs.script.nodes * (length fs.script.micros * 1) ≤ 8 * 24 = mul-le fs.script.nodes (length fs.script.micros * 1) 8 24 nodes (omega (arith, micros)) in
+    omega (arith, is, most, all)
+
+pub some-away : (fs : Fields) (comp : ℕ) → Kept fs → model.CanLeave (play (trace_of fs)) (state (trace_of fs)) (comp - 1) → 0 < fs.away
+some-away fs comp kept can =
+    let core : model.Core = state (trace_of fs) in
+    let out : IsOutAt (play (trace_of fs)) core (comp - 1) = out_there fs comp kept can in
+    let v : ℕ = (ext_at fs.exts (comp - 1)).node.0 in
+    let q : ℕ = out.call.handler.micro.0 in
+    let is : fs.away ≡ away_in fs.script core = kept.holds.away in
+    let less : away_in fs.script (model.abandon (play (trace_of fs)) core (comp - 1) q) + 1 ≡ away_in fs.script core =
+    away-back fs.script core (model.abandon (play (trace_of fs)) core (comp - 1) q) v q (comp - 1) (node-within fs comp kept out.admitted)
+    (next-within (trace_of fs) (comp - 1) out.call out.moment (sound fs kept) (is_there fs comp kept out.admitted) out.next) refl out.out in
+    omega (arith, is, less)
+
+pub some-unended : (fs : Fields) (comp : ℕ) → Kept fs → IsDue (trace_of fs) (Step.End comp) → 0 < fs.unended
+some-unended fs comp kept due =
+    let core : model.Core = state (trace_of fs) in
+    let is : fs.unended ≡ unended core = kept.holds.unended in
+    let less : unended (model.finish core (comp - 1)) + 1 ≡ unended core = unended-end core (comp - 1) due.enabled.admitted due.enabled.not_ended in
+    omega (arith, is, less)
+
+-- what is kept of a computation that a step is of
+pub item-there : (fs : Fields) (comp : ℕ) → Kept fs → cleared_comps (trace_of fs) < comp → comp - 1 < (state (trace_of fs)).count → (r : Computing) × (slice_get fs.running (comp - 1 - fs.first) ≡ Some r)
+item-there fs comp kept since lt =
+    let below : comp - 1 < length fs.exts = is_there fs comp kept lt in
+    item_at {A = Computing} fs.running (comp - 1 - fs.first) (place-within fs comp kept since (omega (arith, below)))
+
+pub takes-there : (fs : Fields) (comp p : ℕ) (node : NodeId) (held : Seen) (o : Outcome) (versions : Counters) → versions ≡ record { gv = fs.global; lv = fs.local } → Kept fs
+    → Comes (trace_of fs) comp p node held o → (r : Computing) × (slice_get fs.running (comp - 1 - fs.first) ≡ Some r) × TakesOutcome fs.script fs.tables versions r o
+takes-there fs comp p node held o versions is kept comes =
+    let item = item-there fs comp kept comes.at.since comes.at.admitted in
+    (item.0, item.1, takes fs comp p node held o versions item.0 is kept comes (runs-at fs comp item.0 kept comes.at.since item.1))
+
+-- the fields after it
+pub kept-left : (fs : Fields) (comp p : ℕ) (node : NodeId) (held : Seen) (o : Outcome) (running : List Computing) (local : List ℕ) → Kept fs → Comes (trace_of fs) comp p node held o
+    → ((r : Computing) → slice_get fs.running (comp - 1 - fs.first) ≡ Some r → running ≡ set fs.running (comp - 1 - fs.first) (taken fs.script fs.tables r o))
+    → ((r : Computing) → slice_get fs.running (comp - 1 - fs.first) ≡ Some r → AreNamed (table_at fs.tables r.node r.epoch) (taken fs.script fs.tables r o).calls.comp.waiting)
+    → ((r : Computing) (a : Active) (rest : List Active) → slice_get fs.running (comp - 1 - fs.first) ≡ Some r → r.calls.comp.active ≡ a ∷ rest
+    → local ≡ risen (decl_at fs.script r.calls.decl).decl (length fs.script.micros) r.node.0 (ended_at a.call o) fs.local)
+    → Kept (moved fs (Step.Leave comp) local (record fs.slots { boxes = set fs.slots.boxes (node.0 * fs.slots.micros + p) (Some held) }) running fs.unended (fs.away - 1) fs.stopped)
+kept-left fs comp p node held o running local kept comes taken_is named lv =
+    let item = item-there fs comp kept comes.at.since comes.at.admitted in
+    let r : Computing = item.0 in
+    let runs : Runs fs.script fs.tables fs.exts (state (trace_of fs)) (comp - 1) r = runs-at fs comp r kept comes.at.since item.1 in
+    let head = head_is ((state (trace_of fs)).comp (comp - 1)) comes.come.call comes.come.moment comes.come.next in
+    let active : r.calls.comp.active ≡ head.0 ∷ head.1 = ap (λ (d : Computation). d.active) runs.is.comp ∙ head.2 in
+    let is_local : local ≡ risen ((play (trace_of fs)).decl (comp - 1)) (length fs.script.micros) ((play (trace_of fs)).node (comp - 1)) (ended_at comes.come.call o) fs.local =
+    lv r head.0 head.1 item.1 active
+    ∙ (ap (λ (n : ℕ). risen (decl_at fs.script n).decl (length fs.script.micros) r.node.0 (ended_at head.0.call o) fs.local) runs.is.decl
+    ∙ (ap (λ (n : NodeId). risen ((play (trace_of fs)).decl (comp - 1)) (length fs.script.micros) n.0 (ended_at head.0.call o) fs.local) runs.is.node
+    ∙ ap (λ (c : Call). risen ((play (trace_of fs)).decl (comp - 1)) (length fs.script.micros) ((play (trace_of fs)).node (comp - 1)) (ended_at c o) fs.local) head.3)) in
+    rw (taken_is r item.1, is_local) (kept-leave fs comp p node held o r kept comes item.1 (named r item.1))

@@ -1,5 +1,5 @@
 -- What each step keeps of the fields of a core.
-use Rattle.std.proofs.Common.{arith, ◌≡◌, ℕ, zero, suc, ◌+◌, ◌-◌, ◌*◌, ◌<◌, ◌≤◌, refl, sym, ap, subst, ◌∙◌, List, [], ◌∷◌, ◌++◌, length, replicate, Bool, false, Some}
+use Rattle.std.proofs.Common.{arith, ◌≡◌, ℕ, zero, suc, ◌+◌, ◌-◌, ◌*◌, ◌<◌, ◌≤◌, refl, sym, ap, subst, ◌∙◌, List, [], ◌∷◌, ◌++◌, length, replicate, get_or, Bool, false, Some}
 use Rattle.std.specs.Prelude.{option_map, slice_get}
 use Rattle.std.proofs.lemmas.List.{length-map}
 use Rattle.std.proofs.lemmas.Option.{slice_get-map, slice_get-get_or}
@@ -15,6 +15,7 @@ use Rattle.samoa_calls.specs.Handed.{AreNamed}
 use Rattle.samoa_serial.specs.Calls.{Computation}
 use Rattle.samoa_invariant.specs.State as model
 use Rattle.samoa_invariant.specs.Runs.{IsDue, IsRun, Trace, after_step, ext_at, model_step, opening_trace, play, state}
+use Rattle.samoa_invariant.proofs.Scripted.{get_is}
 use Rattle.samoa_invariant.proofs.Traces.{invariant, is_run-with_step, opening_is_run, state-step}
 use Rattle.samoa_core.specs.Grids.{Grid, Row}
 use Rattle.samoa_core.specs.Known.{decl_number}
@@ -26,7 +27,7 @@ use Rattle.samoa_core.specs.Since.{cleared_comps}
 use Rattle.samoa_core.specs.Slots.{Slotted, row_of, rows_of, set_up_at}
 use Rattle.samoa_core.specs.Kept.{Fields, HasTable, Holds, Kept, Runs, trace_of}
 use Rattle.samoa_core.proofs.Counts.{away-none}
-use Rattle.samoa_core.proofs.Grids.{grid-none, grid-row, grid-zeros, none_yet}
+use Rattle.samoa_core.proofs.Grids.{grid-none, grid-row, grid-zeros, item_at, none_yet}
 use Rattle.samoa_core.proofs.Rules.{first-present, tables-first}
 use Rattle.samoa_core.proofs.Since.{cleared-opening, cleared-step}
 use Rattle.samoa_core.proofs.Toll.{IsNoAdmission, toll}
@@ -183,3 +184,47 @@ place-within fs comp kept since most =
     let first : fs.first ≡ cleared_comps (trace_of fs) = kept.first in
     let size : length fs.running ≡ length fs.exts - fs.first = kept.holds.size in
     omega (arith, first, since, most, size)
+
+-- what is there
+pub there : (fs : Fields) (at : ℕ) (r : Computing) → at < length fs.running → r ≡ get_or fs.running at r → slice_get fs.running at ≡ Some r
+there fs at r lt e =
+    let item = item_at {A = Computing} fs.running at lt in
+    subst (λ (x : Computing). slice_get fs.running at ≡ Some x) (sym (e ∙ get_is {A = Computing} fs.running at item.0 r item.1)) item.1
+
+pub running-is : (fs : Fields) (t : Trace) (comp : ℕ) (r : Computing) → trace_of fs ≡ t → Kept fs → cleared_comps t < comp → comp ≤ length t.exts
+    → r ≡ get_or fs.running (comp - 1 - fs.first) r → IsRunning t.script t.exts (state t) (comp - 1) r
+running-is fs t comp r view kept since most e =
+    let since_here : cleared_comps (trace_of fs) < comp = subst (λ (x : Trace). cleared_comps x < comp) (sym view) since in
+    let most_here : comp ≤ length fs.exts = subst (λ (x : Trace). comp ≤ length x.exts) (sym view) most in
+    let runs = runs-at fs comp r kept since_here (there fs (comp - 1 - fs.first) r (place-within fs comp kept since_here most_here) e) in
+    subst (λ (x : Trace). IsRunning x.script x.exts (state x) (comp - 1) r) view runs.is
+
+-- more room for clears
+pub kept-room : (fs : Fields) (clears_room : ℕ) → Kept fs → fs.clears_room ≤ clears_room → Kept (record fs { clears_room = clears_room })
+kept-room fs clears_room kept more = record {
+  in_range = kept.in_range;
+  built = kept.built;
+  tables = kept.tables;
+  micros = kept.micros;
+  known = kept.known;
+  is_run = kept.is_run;
+  first = kept.first;
+  first_most = kept.first_most;
+  clears_room = λ some. let room = kept.clears_room some in omega (arith, room, more);
+  promised = kept.promised;
+  holds = record {
+    admitted = kept.holds.admitted;
+    held = kept.holds.held;
+    within = kept.holds.within;
+    present = kept.holds.present;
+    global = kept.holds.global;
+    local = kept.holds.local;
+    slots = kept.holds.slots;
+    size = kept.holds.size;
+    running = kept.holds.running;
+    past = kept.holds.past;
+    unended = kept.holds.unended;
+    away = kept.holds.away;
+    stopped = kept.holds.stopped;
+  };
+}

@@ -17,3 +17,4 @@ pub mod Quiets
 pub mod Answered
 pub mod Going
 pub mod Admitted
+pub mod Passes

@@ -90,7 +90,7 @@ risen_turn low weight = record { from = low; to = low + weight }
 
 pub taken-at : (rows columns v n p : ℕ) (items : List ℕ) (f : At ℕ) (decl : Decl) → v < rows → n ≤ columns → Grid rows columns items f → p < n
     → slice_get (turns_taken decl columns v items n) p ≡ Some (record { from = f v p; to = f v p + weight decl p })
-unfolding last_turn, risen_turn
+unfolding last_turn risen_turn
 taken-at rows columns v zero p items f decl lt le grid below = absurd (omega arith)
 taken-at rows columns v (suc n) p items f decl lt le grid below = go (same_or_not p n) (λ less. taken-at rows columns v n p items f decl lt (omega arith) grid less)
   where

@@ -6,9 +6,8 @@ ghost use Rattle.samoa_model.specs.Range.{IsDeclOf, IsExtOf, IsInRange};
 ghost use Rattle.samoa_model.specs.Scripts.{decl_of};
 ghost use Rattle.samoa_calls.specs.Handed.{fresh};
 ghost use Rattle.samoa_invariant.specs.Runs.{Trace, state};
-ghost use Rattle.samoa_invariant.specs.State.{named};
 ghost use Rattle.samoa_versions.specs.Counters.{gv_at};
-ghost use Rattle.samoa_core.specs.Admission.{admitted, beside_units, most_admitted, most_versions, raised, started, steps_a_unit, steps_of as steps_to_come, turns_taken, version_after};
+ghost use Rattle.samoa_core.specs.Admission.{admitted, most_admitted, most_versions, raised, started, steps_of as steps_to_come, turns_taken, version_after};
 ghost use Rattle.samoa_core.specs.Kept.{AreTables};
 ghost use Rattle.samoa_core.specs.Later.{IsStill};
 ghost use Rattle.samoa_core.specs.Since.{cleared_comps};
@@ -64,7 +63,7 @@ impl<B: Micro> Core<B> {
         let (calls, turns) = begun(alloc, &self.script, &self.tables, ext, spare)?;
         room_for_one(&mut self.exts, &mut self.running, &mut self.clears)?;
         let decl = decl_in(&self.script, calls.decl());
-        self.journal.promise(1 + steps_for(decl))?;
+        self.journal.promise(steps_for(decl)?)?;
         let running = Running {
             node: ext.node,
             epoch: self.tables.current(ext.node),
@@ -150,14 +149,13 @@ fn fresh_parts(
     }
 }
 
-/// How many steps room is kept for of a computation under this declaration.
-fn steps_for(decl: &DeclDef) -> u64
-    requires budget { decl.now.budget ≤ 256 }
-    requires few { length (named decl.now.decl) ≤ 32 }
-    ensures steps { result ≡ steps_to_come decl.now }
-    ensures few { result ≤ 2604 }
+/// How many steps room is made for of a computation under this declaration, its Admit included.
+fn steps_for(decl: &DeclDef) -> Result<u64, NoMemory>
+    requires { decl.now.budget ≤ 256 }
+    ensures { IfOk result (λ steps. steps ≡ steps_to_come decl.now + 1) }
 {
-    STEPS_A_UNIT * u64::from(decl.budget) + named_count(&decl.decl) as u64 + BESIDE_UNITS
+    let fixed = STEPS_A_UNIT * u64::from(decl.budget) + BESIDE_UNITS + 1;
+    sum(fixed, named_count(&decl.decl) as u64)
 }
 
 /// Takes the versions of a node for one more computation: each version rises by what the declaration allows of its

@@ -133,7 +133,7 @@ impl<B: Micro> Core<B> {
 
     /// What holds of every core, for a proof that needs it; it costs nothing.
     pub(crate) fn recall(&self)
-        ensures sound { IsSound self.now }
+        ensures { IsSound self.now }
     {
         let _script = &self.script;
     }

@@ -2,7 +2,8 @@
 ghost use Rattle.std.specs.Prelude.{◌≡◌, ℕ, ◌<◌, List, ◌∷◌, length, set, slice_get, true};
 ghost use Rattle.samoa_model.specs.Range.{IsInRange};
 ghost use Rattle.samoa_model.specs.Scripts.{decl_at};
-ghost use Rattle.samoa_calls.specs.Handed.{ended_at};
+ghost use Rattle.samoa_bind.specs.Bound.{table_at};
+ghost use Rattle.samoa_calls.specs.Handed.{AreNamed, ended_at};
 ghost use Rattle.samoa_serial.specs.declared.call.Active.{Active};
 ghost use Rattle.samoa_versions.specs.Counters.{Counters};
 ghost use Rattle.samoa_core.specs.Running.{Computing};
@@ -69,6 +70,7 @@ impl Running {
         requires in_range { IsInRange script.now }
         requires takes { TakesOutcome script.now tables.now versions.old self.old outcome }
         ensures taken { self.new ≡ taken script.now tables.now self.old outcome }
+        ensures named { AreNamed (table_at tables.now self.old.node self.old.epoch) (taken script.now tables.now self.old outcome).calls.comp.waiting }
         ensures lv { (a : Active) (rest : List Active) → self.old.calls.comp.active ≡ a ∷ rest
             → versions.new.lv ≡ risen (decl_at script.now self.old.calls.decl).decl (length script.now.micros) self.old.node.0 (ended_at a.call outcome) versions.old.lv }
         ensures gv { versions.new.gv ≡ versions.old.gv }
@@ -92,6 +94,8 @@ pub(crate) fn take_outcome_at(
     requires takes { (r : Computing) × (slice_get running.old.items at ≡ Some r) × TakesOutcome script.now tables.now versions.old r outcome }
     ensures taken { (r : Computing) → slice_get running.old.items at ≡ Some r
         → running.new.items ≡ set running.old.items at (taken script.now tables.now r outcome) }
+    ensures named { (r : Computing) → slice_get running.old.items at ≡ Some r
+        → AreNamed (table_at tables.now r.node r.epoch) (taken script.now tables.now r outcome).calls.comp.waiting }
     ensures lv { (r : Computing) (a : Active) (rest : List Active) → slice_get running.old.items at ≡ Some r → r.calls.comp.active ≡ a ∷ rest
         → versions.new.lv ≡ risen (decl_at script.now r.calls.decl).decl (length script.now.micros) r.node.0 (ended_at a.call outcome) versions.old.lv }
     ensures gv { versions.new.gv ≡ versions.old.gv }

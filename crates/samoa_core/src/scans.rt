@@ -46,7 +46,9 @@ impl<B: Micro> Core<B> {
         while comp < admitted {
             comp += 1;
             self.release_of(comp);
+            self.recall();
         }
+        self.recall();
     }
 
     /// Makes the releases of a computation that are due, by rising microprotocol.
@@ -129,6 +131,7 @@ impl<B: Micro> Core<B> {
             comp += 1;
             self.try_end(comp);
         }
+        self.recall();
     }
 
     fn try_end(&mut self, comp: u32)

@@ -3,7 +3,7 @@ use Rattle.samoa_core.specs.Admission.{raised, turns_taken}
 use Rattle.samoa_core.proofs.admission.take_turns.Given as goal
 
 abbrev pub invariant-loop-micro : goal.invariant-loop-micro
-invariant-loop-micro g l = record {
+invariant-loop-micro l = record {
   turns : l.turns.items ≡ turns_taken l.decl.now l.micros l.node l.fn.versions.gv l.micro;
   gv : l.versions.gv ≡ raised l.decl.now l.micros l.node l.fn.versions.gv l.micro;
   lv : l.versions.lv ≡ l.fn.versions.lv;
@@ -11,4 +11,4 @@ invariant-loop-micro g l = record {
 }
 
 abbrev pub decreases-loop-micro : goal.decreases-loop-micro
-decreases-loop-micro g l = l.micros - l.micro
+decreases-loop-micro l = l.micros - l.micro

@@ -5,8 +5,8 @@ use Rattle.samoa_core.proofs.kernel.Core.all_past.Given as goal
 
 abbrev pub invariant-loop-micro : goal.invariant-loop-micro
 invariant-loop-micro g l = record {
-  past : (p : ℕ) → p < l.micro → IsPast (play l.self.now) (state l.self.now) (l.comp - 1) p;
-  below : l.micro ≤ length l.self.now.script.micros;
+  past : (p : ℕ) → p < l.micro → IsPast (play l.self) (state l.self) (l.comp - 1) p;
+  below : l.micro ≤ length l.self.script.micros;
 }
 
 abbrev pub decreases-loop-micro : goal.decreases-loop-micro

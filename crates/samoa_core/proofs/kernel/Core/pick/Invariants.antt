@@ -6,9 +6,9 @@ use Rattle.samoa_core.proofs.kernel.Core.pick.Given as goal
 
 abbrev pub invariant-loop-comp : goal.invariant-loop-comp
 invariant-loop-comp g l = record {
-  none : (earlier micro : ℕ) → earlier ≤ l.comp → IsDue l.self.now (Step.Enter earlier micro) → ⊥;
-  from : cleared_comps l.self.now ≤ l.comp;
-  below : l.comp ≤ length l.self.now.exts;
+  none : (earlier micro : ℕ) → earlier ≤ l.comp → IsDue l.self (Step.Enter earlier micro) → ⊥;
+  from : cleared_comps l.self ≤ l.comp;
+  below : l.comp ≤ length l.self.exts;
 }
 
 abbrev pub decreases-loop-comp : goal.decreases-loop-comp

@@ -1,0 +1,18 @@
+use Rattle.std.proofs.Common.{arith, ◌-◌, ◌<◌, ◌≤◌, length, sym, subst}
+use Rattle.samoa_model.specs.declared.record.Step.{Step}
+use Rattle.samoa_invariant.specs.Runs.{IsDue, Trace}
+use Rattle.samoa_core.specs.Fields.{fields_of}
+use Rattle.samoa_core.specs.Since.{cleared_comps}
+use Rattle.samoa_core.proofs.Going.{kept-end, some-unended}
+use Rattle.samoa_core.proofs.Keeps.{some_promised}
+use Rattle.samoa_core.proofs.kernel.Core.end.Goals as goal
+
+pub overflow_sub-self : goal.overflow_sub-self
+overflow_sub-self g c =
+    let some = some-unended (fields_of c.self.inside) c.args.comp c.self.invariant (subst (λ (x : Trace). IsDue x (Step.End c.args.comp)) (sym c.self.view_is) c.requires.due) in
+    omega (arith, some)
+
+pub note-requires : goal.note-requires
+note-requires g c =
+    some_promised (fields_of c.self.inside) (Step.End c.args.comp) c.self.invariant tt (subst (λ (x : Trace). IsDue x (Step.End c.args.comp)) (sym c.self.view_is) c.requires.due)
+
