@@ -28,7 +28,7 @@ use Rattle.samoa_invariant.specs.Runs.{IsDue, IsRun, Trace, ext_at, no_ext, play
 use Rattle.samoa_invariant.proofs.Agrees.{turns-agree}
 use Rattle.samoa_invariant.proofs.Room.{admitted_left, turns-most}
 use Rattle.samoa_invariant.proofs.Slots.{put-else, put-here}
-use Rattle.samoa_invariant.proofs.Traces.{invariant, is_run-with_ext, is_run-with_step, state-ext, state-step}
+use Rattle.samoa_invariant.proofs.Traces.{count-few, invariant, is_run-with_ext, is_run-with_step, state-ext, state-step}
 use Rattle.samoa_invariant.proofs.Versions.{same_or_not, version-most, weight_at-else, weight_at-is}
 use Rattle.samoa_core.specs.Admission.{admitted, last_table, raised, started, steps_of, turns_taken}
 use Rattle.samoa_core.specs.Known.{decl_number}
@@ -38,7 +38,7 @@ use Rattle.samoa_core.specs.Running.{Computing, turn_of}
 use Rattle.samoa_core.specs.declared.running.Interval.{Interval}
 use Rattle.samoa_core.specs.Since.{cleared_comps}
 use Rattle.samoa_core.specs.Kept.{Fields, Holds, Kept, Runs, trace_of, unended}
-use Rattle.samoa_core.proofs.Counts.{unended-admit}
+use Rattle.samoa_core.proofs.Counts.{unended-admit, unended-most}
 use Rattle.samoa_core.proofs.Declares.{weight-most}
 use Rattle.samoa_core.proofs.Grids.{each-push}
 use Rattle.samoa_core.proofs.Keeps.{runs-on}
@@ -194,7 +194,8 @@ runs-new fs ext r kept known is =
     let epoch : r.epoch < length (epochs_of fs.tables r.node) = (let e = is.epoch in rw is.node (omega (arith, e))) in
     let last : length (epochs_of fs.tables ext.node) - 1 ≡ r.epoch = (let e = is.epoch in omega (arith, e)) in
     let present : last_table fs.tables ext.node ≡ P.change core.count (core.present (P.node core.count)) =
-    rw mine_at (same-table fs ext ext.node (length (epochs_of fs.tables ext.node) - 1) kept known.node (let e = is.epoch in omega (arith, e))) in
+    same-table fs ext ext.node (length (epochs_of fs.tables ext.node) - 1) kept known.node (let e = is.epoch in omega (arith, e))
+    ∙ ap (λ (x : Ext). caused fs.script x.cause (core.present x.node.0)) (sym mine_at) in
     let table : table_at fs.tables r.node r.epoch ≡ after.table n =
     ap (λ (v : NodeId). table_at fs.tables v r.epoch) is.node
     ∙ (ap (λ (e : ℕ). table_at fs.tables ext.node e) (sym last)
@@ -319,6 +320,9 @@ kept-admission fs ext number held promised clears_room global r kept admits is i
         let core : model.Core = state (trace_of fs) in
         put-else {A = Table} core.present (P.node core.count) v (P.change core.count (core.present (P.node core.count))) ne
 
+    same_turn : {low high from to : ℕ} → from ≡ low → to ≡ high → (let i : Interval = record { from = from; to = to } in i) ≡ record { from = low; to = high }
+    same_turn {low = low} {high = high} {from = from} {to = to} e f = ap (λ (x : ℕ). let i : Interval = record { from = x; to = to } in i) e ∙ ap (λ (y : ℕ). let i : Interval = record { from = low; to = y } in i) f
+
     old_runs : (i : ℕ) (x : Computing) → fs.first + i < length fs.exts → Runs fs.script fs.tables fs.exts (state (trace_of fs)) (fs.first + i) x
         → Runs fs.script fs.tables (fs.exts ++ ext ∷ []) (model.admit (play (with_ext (trace_of fs) ext)) (state (trace_of fs))) (fs.first + i) x
     old_runs i x lt old =
@@ -332,12 +336,17 @@ kept-admission fs ext number held promised clears_room global r kept admits is i
         (put-else {A = Computation} core.comp core.count (fs.first + i) _ other) (put-else {A = Table} core.table core.count (fs.first + i) _ other)
         (put-else {A = Bool} core.ended core.count (fs.first + i) false other) old
 
-    same_turn : {low high from to : ℕ} → from ≡ low → to ≡ high → (let i : Interval = record { from = from; to = to } in i) ≡ record { from = low; to = high }
-    same_turn {low = low} {high = high} {from = from} {to = to} e f = ap (λ (x : ℕ). let i : Interval = record { from = x; to = to } in i) e ∙ ap (λ (y : ℕ). let i : Interval = record { from = low; to = y } in i) f
-
     known_at : (j : ℕ) → j < suc (length fs.exts) → (j ≡ length fs.exts) ⊎ (j ≢ length fs.exts) → IsExtOf fs.script (ext_at (fs.exts ++ ext ∷ []) j)
     known_at j lt (inl e) = rw (e, new_ext fs.exts ext) admits.known
     known_at j lt (inr ne) = rw (old_ext fs.exts ext j (omega (arith, lt, ne))) (kept.known j (omega (arith, lt, ne)))
+
+-- how many haven't ended
+pub unended-fits : (fs : Fields) → Kept fs → fs.unended ≤ 100000
+unended-fits fs kept =
+    let is : fs.unended ≡ unended (state (trace_of fs)) = kept.holds.unended in
+    let most = unended-most (state (trace_of fs)) in
+    let few = count-few (trace_of fs) kept.is_run in
+    omega (arith, is, most, few)
 
 -- an admission takes no box out, and stops nothing
 pub still-admitted : (t : Trace) (ext : Ext) → IsRun t → IsStill (state t) (admitted t ext)

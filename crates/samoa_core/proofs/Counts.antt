@@ -1,5 +1,6 @@
 -- Sums of which one term changes: how many haven't ended, and how many boxes are out.
-use Rattle.std.proofs.Common.{arith, ◌≡◌, ◌≢◌, ◌⊎◌, inl, inr, ◌↔◌, ℕ, zero, suc, ◌+◌, ◌*◌, ◌<◌, ◌≤◌, refl, sym, ap, subst, ◌∙◌, length, Bool, true, false, Option, Some, None}
+use Rattle.std.proofs.Common.{arith, ◌≡◌, ◌≢◌, ◌⊎◌, inl, inr, ◌↔◌, ℕ, zero, suc, ◌+◌, ◌*◌, ◌<◌, ◌≤◌, ◌==◌, refl, sym, ap, subst, ◌∙◌, length, Bool, true, false, Option, Some, None}
+use Rattle.std.proofs.lemmas.Bool.{eq-eqb, eqb-true}
 use Rattle.samoa_model.specs.declared.script.Script.{Script}
 use Rattle.samoa_invariant.specs.Slots.{At, put_at}
 use Rattle.samoa_invariant.specs.State as model
@@ -81,6 +82,12 @@ none-unended core = (
     zeros : (n : ℕ) → sum_to (λ j. 0) n ≡ 0
     zeros zero = refl
     zeros (suc n) = let before : sum_to (λ j. 0) n ≡ 0 = zeros n in omega (arith, before)
+
+pub ended-test : (core : model.Core) (n : ℕ) → n ≡ unended core → ((n == 0) ≡ true) ↔ model.AllEnded core
+ended-test core n e = (
+  (λ yes. let none : n ≡ 0 = eqb-true n 0 yes in (none-unended core).0 (sym e ∙ none)),
+  (λ all. eq-eqb n 0 (e ∙ (none-unended core).1 all)),
+)
 
 pub unended-most : (core : model.Core) → unended core ≤ core.count
 unended-most core =

@@ -185,21 +185,23 @@ takes fs comp p node held o versions r is_versions kept comes runs =
     let inside : q < length fs.script.micros = subst (λ (n : ℕ). n < length fs.script.micros) (sym comes.come.is_at) at.within in
     let lt_node : v < fs.script.nodes = node-within fs comp kept at.admitted in
     let out : core.out v q ≡ Some k = out_is fs comp call comes.come.moment kept at.due.enabled comes.come.next in
-    rw (is_versions, runs.is.comp, runs.is.waiting, runs.is.decl, runs.table.table) (record {
-      decl = decl-within fs.script (ext_at fs.exts k) kept.in_range (kept.known k lt);
+    record {
+      decl = subst (λ (n : ℕ). n < length fs.script.decls) (sym runs.is.decl) (decl-within fs.script (ext_at fs.exts k) kept.in_range (kept.known k lt));
       first = head.0;
       rest = head.1;
-      active = head.2;
+      active = ap (λ (d : Computation). d.active) runs.is.comp ∙ head.2;
       epoch = runs.table.epoch;
-      counted = subst (λ (x : Table). IsCounted x) runs.table.table (kept.tables.counted r.node r.epoch runs.table.epoch);
-      listed = refl;
-      waiting_named = runs.table.named;
-      named = subst (λ (x : Table). IsNamed x o) runs.table.table
-          (rw comes.come.gives (named-step fs.script (table_at fs.tables r.node r.epoch) v p (core.boxes v p) comes.come.moment kept.in_range (kept.tables.events r.node r.epoch runs.table.epoch)));
-      there = rw (head.3, runs.is.node) (if_ended call o (λ (micro : MicroId). v * length fs.script.micros + micro.0 < length fs.global) (slot-within fs v q kept lt_node inside));
-      below = rw (head.3, runs.is.node) (if_ended call o (λ (micro : MicroId). get_or fs.local (v * length fs.script.micros + micro.0) 0 < get_or fs.global (v * length fs.script.micros + micro.0) 0)
+      counted = kept.tables.counted r.node r.epoch runs.table.epoch;
+      listed = runs.is.waiting
+          ∙ (ap (λ (d : Computation). handlers_of (core.table k) d.waiting) (sym runs.is.comp) ∙ ap (λ (x : Table). handlers_of x r.calls.comp.waiting) (sym runs.table.table));
+      waiting_named = subst (λ (x : Table). AreNamed x r.calls.comp.waiting) (sym runs.table.table)
+          (subst (λ (d : Computation). AreNamed (core.table k) d.waiting) (sym runs.is.comp) runs.table.named);
+      named = subst (λ (x : Outcome). IsNamed (table_at fs.tables r.node r.epoch) x) (sym comes.come.gives)
+          (named-step fs.script (table_at fs.tables r.node r.epoch) v p (core.boxes v p) comes.come.moment kept.in_range (kept.tables.events r.node r.epoch runs.table.epoch));
+      there = rw (is_versions, head.3, runs.is.node) (if_ended call o (λ (micro : MicroId). v * length fs.script.micros + micro.0 < length fs.global) (slot-within fs v q kept lt_node inside));
+      below = rw (is_versions, head.3, runs.is.node) (if_ended call o (λ (micro : MicroId). get_or fs.local (v * length fs.script.micros + micro.0) 0 < get_or fs.global (v * length fs.script.micros + micro.0) 0)
           (out-below fs k v q kept lt_node inside out));
-    })
+    }
 
 -- a slot whose box is home again
 slot-back : (script : Script) (core : model.Core) (v p i j : ℕ) (s : State) → (i ≢ v) ⊎ (j ≢ p)
@@ -347,7 +349,7 @@ kept-abandon fs comp p node held kept back =
 
 -- what a release sets
 pub kept-release : (fs : Fields) (comp p x : ℕ) (node : NodeId) → Kept fs → AtStep (trace_of fs) comp p (Step.Release comp p) node
-    → x ≡ (state (trace_of fs)).private (comp - 1) ((play (trace_of fs)).node (comp - 1)) p
+    → x ≡ (state (trace_of fs)).private (comp - 1) node.0 p
     → Kept (moved fs (Step.Release comp p) (set fs.local (node.0 * length fs.script.micros + p) x) fs.slots fs.running fs.unended fs.away fs.stopped)
 kept-release fs comp p x node kept at e =
     let core : model.Core = state (trace_of fs) in
@@ -362,7 +364,7 @@ kept-release fs comp p x node kept at e =
       within = kept.holds.within;
       present = kept.holds.present;
       global = kept.holds.global;
-      local = rw (is, e) (grid-put fs.script.nodes (length fs.script.micros) fs.local core.local v p (core.private k v p) (node-within fs comp kept at.admitted) at.within kept.holds.local);
+      local = rw (e, is) (grid-put fs.script.nodes (length fs.script.micros) fs.local core.local v p (core.private k v p) (node-within fs comp kept at.admitted) at.within kept.holds.local);
       slots = kept.holds.slots;
       size = kept.holds.size;
       running = λ i r there. let old = kept.holds.running i r there in runs-on fs.script fs.tables fs.exts fs.exts core after (fs.first + i) r old.is.admitted refl (λ u q. refl) refl refl refl old;
@@ -371,6 +373,14 @@ kept-release fs comp p x node kept at e =
       away = kept.holds.away;
       stopped = kept.holds.stopped;
     })
+
+-- the turn that is kept of a computation
+pub turn-here : (fs : Fields) (t : Trace) (comp p : ℕ) (r : Computing) (node : NodeId) (turn : Interval) → trace_of fs ≡ t → p < length t.script.micros
+    → IsRunning t.script t.exts (state t) (comp - 1) r → node ≡ (ext_at t.exts (comp - 1)).node → slice_get r.turns p ≡ Some turn → turn ≡ turn_of (state (trace_of fs)) (comp - 1) node.0 p
+turn-here fs t comp p r node turn view below is is_at there =
+    let same : Some turn ≡ Some (turn_of (state t) (comp - 1) (ext_at t.exts (comp - 1)).node.0 p) = sym there ∙ is.turns.value p below in
+    let here : turn ≡ turn_of (state t) (comp - 1) (ext_at t.exts (comp - 1)).node.0 p = cc in
+    here ∙ (ap (λ (n : NodeId). turn_of (state t) (comp - 1) n.0 p) (sym is_at) ∙ ap (λ (x : Trace). turn_of (state x) (comp - 1) node.0 p) (sym view))
 
 -- the turn that a release ends
 pub turn_is : (fs : Fields) (comp p : ℕ) (node : NodeId) (slot : ℕ) (turn : Interval) → Kept fs → AtStep (trace_of fs) comp p (Step.Release comp p) node
@@ -492,3 +502,10 @@ kept-left fs comp p node held o running local kept comes taken_is named lv =
     ∙ (ap (λ (n : NodeId). risen ((play (trace_of fs)).decl (comp - 1)) (length fs.script.micros) n.0 (ended_at head.0.call o) fs.local) runs.is.node
     ∙ ap (λ (c : Call). risen ((play (trace_of fs)).decl (comp - 1)) (length fs.script.micros) ((play (trace_of fs)).node (comp - 1)) (ended_at c o) fs.local) head.3)) in
     rw (taken_is r item.1, is_local) (kept-leave fs comp p node held o r kept comes item.1 (named r item.1))
+
+pub kept-ended : (fs : Fields) (comp : ℕ) (running : List Computing) → Kept fs → IsDue (trace_of fs) (Step.End comp) → cleared_comps (trace_of fs) < comp
+    → ((r : Computing) → slice_get fs.running (comp - 1 - fs.first) ≡ Some r → running ≡ set fs.running (comp - 1 - fs.first) (record r { ended = true }))
+    → Kept (moved fs (Step.End comp) fs.local fs.slots running (fs.unended - 1) fs.away fs.stopped)
+kept-ended fs comp running kept due since is =
+    let item = item-there fs comp kept since due.enabled.admitted in
+    rw (is item.0 item.1) (kept-end fs comp item.0 kept due since item.1)

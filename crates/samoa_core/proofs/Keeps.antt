@@ -82,7 +82,7 @@ kept-new script tables slots global local cells clears_room in_range built is_ta
     admitted = refl;
     held = refl;
     within = omega arith;
-    present = λ node epoch lt last. rw is_tables (first-present script node epoch lt (rw is_tables last));
+    present = λ node epoch lt last. rw is_tables (first-present script node epoch lt (rw (← is_tables) last));
     global = subst (λ (cs : List ℕ). Grid {A = ℕ} script.nodes (length script.micros) cs none_yet) (sym is_global) (grid-zeros script.nodes (length script.micros));
     local = subst (λ (cs : List ℕ). Grid {A = ℕ} script.nodes (length script.micros) cs none_yet) (sym is_local) (grid-zeros script.nodes (length script.micros));
     slots = subst (λ (s : Slotted). Grid script.nodes (length script.micros) s.boxes (slot_in script (state (opening_trace script cells)))) (sym is_slots) (rows-grid script cells script.nodes);

@@ -63,10 +63,10 @@ pass-ends t u n sound le before =
 
 -- the same of ends
 pub ends-begin : (t : Trace) → IsSound t → EndsBefore t t (cleared_comps t + 1)
-ends-begin t sound = ends_before-none t (cleared_comps t + 1) (λ j lt due. open j lt due)
+ends-begin t sound = ends_before-none t (cleared_comps t + 1) (λ j lt due. unended j lt due)
   where
-    open : (j : ℕ) → j < cleared_comps t + 1 → IsDue t (Step.End j) → ⊥
-    open j lt due =
+    unended : (j : ℕ) → j < cleared_comps t + 1 → IsDue t (Step.End j) → ⊥
+    unended j lt due =
         let first : 0 < j = due.number in
         let ended : (state t).ended (j - 1) ≡ true = sound.past (j - 1) (omega (arith, lt, first)) in
         let not_ended : (state t).ended (j - 1) ≡ false = due.enabled.not_ended in

@@ -108,3 +108,15 @@ taken-at rows columns v (suc n) p items f decl lt le grid below = go (same_or_no
         ∙ ap (λ (q : ℕ). Some (risen_turn (f v q) (weight decl q))) (sym e)))
     go (inr ne) before =
         slice_get-left {A = Interval} (turns_taken decl columns v items n) (last_turn decl columns v items n ∷ []) p (omega (arith, long, ne)) ∙ before (omega arith)
+
+-- a version that hasn't risen yet
+pub length-raised : (decl : Decl) (columns v : ℕ) (items : List ℕ) (n : ℕ) → length (raised decl columns v items n) ≡ length items
+length-raised decl columns v items zero = refl
+length-raised decl columns v items (suc n) =
+    length-set (raised decl columns v items n) (v * columns + n) (version_after decl columns v (raised decl columns v items n) n) ∙ length-raised decl columns v items n
+
+pub raised-else : (decl : Decl) (columns v : ℕ) (items : List ℕ) (n p : ℕ) → n ≤ p → get_or (raised decl columns v items n) (v * columns + p) 0 ≡ get_or items (v * columns + p) 0
+raised-else decl columns v items zero p le = refl
+raised-else decl columns v items (suc n) p le =
+    get_or-other {A = ℕ} (raised decl columns v items n) (v * columns + n) (v * columns + p) (version_after decl columns v (raised decl columns v items n) n) 0 (λ e. omega arith)
+    ∙ raised-else decl columns v items n p (omega arith)

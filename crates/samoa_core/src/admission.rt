@@ -2,8 +2,8 @@
 ghost use Rattle.std.specs.Prelude.{◌≡◌, ℕ, ◌<◌, ◌≤◌, ◌+◌, ◌-◌, ◌*◌, [], length, set, IfOk, IfErr, OnOk, OnErr, vec_capacity};
 ghost use Rattle.samoa_model.specs.Allowed.{weight};
 ghost use Rattle.samoa_model.specs.Cells.{cells_of as computation_cells};
-ghost use Rattle.samoa_model.specs.Range.{IsDeclOf, IsExtOf, IsInRange};
-ghost use Rattle.samoa_model.specs.Scripts.{decl_of};
+ghost use Rattle.samoa_model.specs.Range.{IsExtOf, IsInRange};
+ghost use Rattle.samoa_model.specs.Scripts.{decl_at};
 ghost use Rattle.samoa_calls.specs.Handed.{fresh};
 ghost use Rattle.samoa_invariant.specs.Runs.{Trace, state};
 ghost use Rattle.samoa_versions.specs.Counters.{gv_at};
@@ -21,7 +21,7 @@ use crate::running::{Interval, Running};
 use samoa_bind::Tables;
 use samoa_calls::Comp;
 use samoa_micro::Micro;
-use samoa_model::{Decl, DeclDef, Ext, NoMemory, Script, Step};
+use samoa_model::{Decl, DeclDef, Ext, NoMemory, NodeId, Script, Step};
 use samoa_versions::Versions;
 use std::alloc::Global;
 
@@ -62,12 +62,13 @@ impl<B: Micro> Core<B> {
         let spare = self.spare.pop();
         let (calls, turns) = begun(alloc, &self.script, &self.tables, ext, spare)?;
         room_for_one(&mut self.exts, &mut self.running, &mut self.clears)?;
-        let decl = decl_in(&self.script, calls.decl());
-        self.journal.promise(steps_for(decl)?)?;
+        let steps = steps_for(decl_in(&self.script, calls.decl()))?;
+        self.journal.promise(steps)?;
+        let turns = turns_of(&self.script, calls.decl(), ext.node, &mut self.versions, turns);
         let running = Running {
             node: ext.node,
             epoch: self.tables.current(ext.node),
-            turns: take_turns(&self.script, &decl.decl, ext.node.0, &mut self.versions, turns),
+            turns,
             calls,
             ended: false,
         };
@@ -158,30 +159,52 @@ fn steps_for(decl: &DeclDef) -> Result<u64, NoMemory>
     sum(fixed, named_count(&decl.decl) as u64)
 }
 
-/// Takes the versions of a node for one more computation: each version rises by what the declaration allows of its
-/// microprotocol, and the computation's turn there is what lies between.
-fn take_turns(
+/// The turns of a computation under the declaration of this number, whose versions are taken.
+fn turns_of(
     script: &Script,
-    decl: &Decl,
-    node: u32,
+    decl: u32,
+    node: NodeId,
     versions: &mut Versions,
     turns: Vec<Interval>,
 ) -> Vec<Interval>
     requires in_range { IsInRange script.now }
-    requires known { IsDeclOf script.now decl.now }
-    requires there { node * length script.now.micros + length script.now.micros ≤ length versions.old.gv }
-    requires small { (p : ℕ) → p < length script.now.micros → gv_at versions.old (node * length script.now.micros + p) < most_versions }
+    requires decl { decl < length script.now.decls }
+    requires there { node.0 * length script.now.micros + length script.now.micros ≤ length versions.old.gv }
+    requires small { (p : ℕ) → p < length script.now.micros → gv_at versions.old (node.0 * length script.now.micros + p) < most_versions }
     requires none { turns.items ≡ [] }
     requires room { length script.now.micros ≤ vec_capacity turns }
-    ensures turns { result.items ≡ turns_taken decl.now (length script.now.micros) node versions.old.gv (length script.now.micros) }
-    ensures gv { versions.new.gv ≡ raised decl.now (length script.now.micros) node versions.old.gv (length script.now.micros) }
+    ensures turns { result.items ≡ turns_taken (decl_at script.now decl).decl (length script.now.micros) node.0 versions.old.gv (length script.now.micros) }
+    ensures gv { versions.new.gv ≡ raised (decl_at script.now decl).decl (length script.now.micros) node.0 versions.old.gv (length script.now.micros) }
     ensures lv { versions.new.lv ≡ versions.old.lv }
 {
-    let micros = script.micros.len();
+    let decl = decl_in(script, decl);
+    take_turns(&decl.decl, script.micros.len(), node.0, versions, turns)
+}
+
+/// Takes the versions of a node for one more computation: each version rises by what the declaration allows of its
+/// microprotocol, and the computation's turn there is what lies between.
+fn take_turns(
+    decl: &Decl,
+    columns: usize,
+    node: u32,
+    versions: &mut Versions,
+    turns: Vec<Interval>,
+) -> Vec<Interval>
+    requires weights { (p : ℕ) → weight decl.now p ≤ 256 }
+    requires few { columns ≤ 24 }
+    requires there { node * columns + columns ≤ length versions.old.gv }
+    requires small { (p : ℕ) → p < columns → gv_at versions.old (node * columns + p) < most_versions }
+    requires none { turns.items ≡ [] }
+    requires room { columns ≤ vec_capacity turns }
+    ensures turns { result.items ≡ turns_taken decl.now columns node versions.old.gv columns }
+    ensures gv { versions.new.gv ≡ raised decl.now columns node versions.old.gv columns }
+    ensures lv { versions.new.lv ≡ versions.old.lv }
+{
     let mut turns = turns;
     let mut micro = 0;
-    while (micro as usize) < micros {
-        turns.push_reserved(take_turn(decl, micros, node, micro, versions));
+    while (micro as usize) < columns {
+        let turn = take_turn(decl, columns, node, micro, versions);
+        turns.push_reserved(turn);
         micro += 1;
     }
     turns

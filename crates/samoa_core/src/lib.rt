@@ -11,8 +11,10 @@ mod moves;
 mod parts;
 mod running;
 mod scans;
+mod sent;
 mod slots;
 mod turn;
 
 pub use kernel::Core;
+pub use sent::sent_core;
 pub use turn::{Ran, Turn};

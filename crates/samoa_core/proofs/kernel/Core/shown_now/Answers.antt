@@ -3,8 +3,6 @@ use Rattle.samoa_model.specs.Scripts.{micro_at}
 use Rattle.samoa_serial.specs.Kinds.{shown}
 use Rattle.samoa_invariant.specs.Runs.{Trace, state}
 use Rattle.samoa_core.specs.Fields.{fields_of}
-use Rattle.samoa_core.specs.Kept.{trace_of}
-use Rattle.samoa_core.specs.Places.{seen_in}
 use Rattle.samoa_core.proofs.Going.{slot-home}
 use Rattle.samoa_core.proofs.kernel.Core.shown_now.Goals as goal
 
