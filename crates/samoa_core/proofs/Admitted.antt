@@ -34,7 +34,8 @@ use Rattle.samoa_core.specs.Admission.{admitted, last_table, raised, started, st
 use Rattle.samoa_core.specs.Known.{decl_number}
 use Rattle.samoa_core.specs.Later.{IsStill}
 use Rattle.samoa_core.specs.Room.{spare_of, spare_when, to_come}
-use Rattle.samoa_core.specs.Running.{Computing, turn_of}
+use Rattle.samoa_core.specs.Running.{turn_of}
+use Rattle.samoa_core.specs.declared.running.Running.{Running}
 use Rattle.samoa_core.specs.declared.running.Interval.{Interval}
 use Rattle.samoa_core.specs.Since.{cleared_comps}
 use Rattle.samoa_core.specs.Kept.{Fields, Holds, Kept, Runs, trace_of, unended}
@@ -113,7 +114,7 @@ come-admit P core =
         ∙ ap (λ (h : ℕ). spare_when core.stopped h) (admit_home P core j (next_step (core.comp j)))
 
 -- the fields after an admission
-abbrev pub after_admission : Fields → Ext → ℕ → ℕ → ℕ → ℕ → List ℕ → Computing → Fields
+abbrev pub after_admission : Fields → Ext → ℕ → ℕ → ℕ → ℕ → List ℕ → Running → Fields
 after_admission fs ext number held promised clears_room global r = record fs {
   held = held;
   global = global;
@@ -166,10 +167,10 @@ pub record Admits (t : Trace) (ext : Ext) : Type 0 where
   pub fits : (state t).cells + cells_of t.script ext ≤ t.cells
 
 -- the record of the computation that is admitted
-pub record IsFresh (fs : Fields) (ext : Ext) (r : Computing) : Type 0 where
+pub record IsFresh (fs : Fields) (ext : Ext) (r : Running) : Type 0 where
   pub node : r.node ≡ ext.node
   pub epoch : r.epoch + 1 ≡ length (epochs_of fs.tables ext.node)
-  pub turns : r.turns ≡ turns_taken (decl_of fs.script ext).decl (length fs.script.micros) ext.node.0 fs.global (length fs.script.micros)
+  pub turns : r.turns.items ≡ turns_taken (decl_of fs.script ext).decl (length fs.script.micros) ext.node.0 fs.global (length fs.script.micros)
   pub calls : r.calls ≡ started fs.script fs.tables ext
   pub none_waits : r.calls.comp.waiting ≡ []
   pub unended : r.ended ≡ false
@@ -181,7 +182,7 @@ same-table fs ext node epoch kept lt last =
     kept.holds.present node epoch lt last ∙ sym (caused-same fs.script kept.built.unchanging ext.cause ((state (trace_of fs)).present node.0))
 
 -- the computation that is admitted, in the state after that
-runs-new : (fs : Fields) (ext : Ext) (r : Computing) → Kept fs → IsExtOf fs.script ext → IsFresh fs ext r
+runs-new : (fs : Fields) (ext : Ext) (r : Running) → Kept fs → IsExtOf fs.script ext → IsFresh fs ext r
     → Runs fs.script fs.tables (fs.exts ++ ext ∷ []) (model.admit (play (with_ext (trace_of fs) ext)) (state (trace_of fs))) (length fs.exts) r
 runs-new fs ext r kept known is =
     let P : Play = play (with_ext (trace_of fs) ext) in
@@ -232,7 +233,7 @@ runs-new fs ext r kept known is =
       };
     }
 
-pub kept-admission : (fs : Fields) (ext : Ext) (number held promised clears_room : ℕ) (global : List ℕ) (r : Computing)
+pub kept-admission : (fs : Fields) (ext : Ext) (number held promised clears_room : ℕ) (global : List ℕ) (r : Running)
     → Kept fs → Admits (trace_of fs) ext → IsFresh fs ext r
     → number ≡ length fs.exts + 1 → held ≡ fs.held + cells_of fs.script ext
     → promised ≡ fs.promised + steps_of (decl_of fs.script ext) → length fs.clears < clears_room
@@ -323,7 +324,7 @@ kept-admission fs ext number held promised clears_room global r kept admits is i
     same_turn : {low high from to : ℕ} → from ≡ low → to ≡ high → (let i : Interval = record { from = from; to = to } in i) ≡ record { from = low; to = high }
     same_turn {low = low} {high = high} {from = from} {to = to} e f = ap (λ (x : ℕ). let i : Interval = record { from = x; to = to } in i) e ∙ ap (λ (y : ℕ). let i : Interval = record { from = low; to = y } in i) f
 
-    old_runs : (i : ℕ) (x : Computing) → fs.first + i < length fs.exts → Runs fs.script fs.tables fs.exts (state (trace_of fs)) (fs.first + i) x
+    old_runs : (i : ℕ) (x : Running) → fs.first + i < length fs.exts → Runs fs.script fs.tables fs.exts (state (trace_of fs)) (fs.first + i) x
         → Runs fs.script fs.tables (fs.exts ++ ext ∷ []) (model.admit (play (with_ext (trace_of fs) ext)) (state (trace_of fs))) (fs.first + i) x
     old_runs i x lt old =
         let P : Play = play (with_ext (trace_of fs) ext) in

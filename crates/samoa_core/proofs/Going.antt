@@ -36,7 +36,8 @@ use Rattle.samoa_core.specs.Forms.{risen}
 use Rattle.samoa_core.specs.Grids.{Grid}
 use Rattle.samoa_core.specs.Leaving.{TakesOutcome, taken}
 use Rattle.samoa_core.specs.Places.{away_in, seen_in, slot_in, unless_out}
-use Rattle.samoa_core.specs.Running.{Computing, IsRunning, turn_of}
+use Rattle.samoa_core.specs.Running.{IsRunning, turn_of}
+use Rattle.samoa_core.specs.declared.running.Running.{Running}
 use Rattle.samoa_core.specs.declared.running.Interval.{Interval}
 use Rattle.samoa_core.specs.Since.{cleared_comps}
 use Rattle.samoa_core.specs.Slots.{Slotted}
@@ -60,7 +61,7 @@ pub record AtStep (t : Trace) (comp p : ℕ) (step : Step) (node : NodeId) : Typ
   pub within : p < length t.script.micros
   pub is_at : node ≡ (ext_at t.exts (comp - 1)).node
 
-pub at-step : (fs : Fields) (t : Trace) (comp p : ℕ) (step : Step) (r : Computing) → trace_of fs ≡ t → IsDue t step → cleared_comps t < comp → p < length t.script.micros
+pub at-step : (fs : Fields) (t : Trace) (comp p : ℕ) (step : Step) (r : Running) → trace_of fs ≡ t → IsDue t step → cleared_comps t < comp → p < length t.script.micros
     → IsRunning t.script t.exts (state t) (comp - 1) r → AtStep (trace_of fs) comp p step r.node
 at-step fs t comp p step r view due since within is =
     subst (λ (x : Trace). AtStep x comp p step r.node) (sym view) (record { due = due; since = since; admitted = is.admitted; within = within; is_at = is.node })
@@ -171,7 +172,7 @@ pub record Comes (t : Trace) (comp p : ℕ) (node : NodeId) (held : Seen) (o : O
   pub come : HasCome t comp p held o
 
 -- the computation takes it
-pub takes : (fs : Fields) (comp p : ℕ) (node : NodeId) (held : Seen) (o : Outcome) (versions : Counters) (r : Computing) → versions ≡ record { gv = fs.global; lv = fs.local } → Kept fs
+pub takes : (fs : Fields) (comp p : ℕ) (node : NodeId) (held : Seen) (o : Outcome) (versions : Counters) (r : Running) → versions ≡ record { gv = fs.global; lv = fs.local } → Kept fs
     → Comes (trace_of fs) comp p node held o → Runs fs.script fs.tables fs.exts (state (trace_of fs)) (comp - 1) r → TakesOutcome fs.script fs.tables versions r o
 takes fs comp p node held o versions r is_versions kept comes runs =
     let core : model.Core = state (trace_of fs) in
@@ -217,7 +218,7 @@ slot-back-here script core v p s =
     ∙ ap (λ (b : State). Some (seen_in script v p b)) (put_at-here {A = State} core.boxes v p v p s refl refl)
 
 -- the calls that took the outcome are those of the model
-pub taken-runs : (fs : Fields) (k : ℕ) (c : Call) (m : Moment) (o : Outcome) (r : Computing) → Runs fs.script fs.tables fs.exts (state (trace_of fs)) k r
+pub taken-runs : (fs : Fields) (k : ℕ) (c : Call) (m : Moment) (o : Outcome) (r : Running) → Runs fs.script fs.tables fs.exts (state (trace_of fs)) k r
     → o ≡ ((play (trace_of fs)).step k c.handler.micro ((state (trace_of fs)).boxes ((play (trace_of fs)).node k) c.handler.micro.0) m).1
     → AreNamed (table_at fs.tables r.node r.epoch) (taken fs.script fs.tables r o).calls.comp.waiting
     → Runs fs.script fs.tables fs.exts (model.leave_at (play (trace_of fs)) (state (trace_of fs)) k c m) k (taken fs.script fs.tables r o)
@@ -247,7 +248,7 @@ taken-runs fs k c m o r runs gives named =
       };
     }
 
-pub kept-leave : (fs : Fields) (comp p : ℕ) (node : NodeId) (held : Seen) (o : Outcome) (r : Computing) → Kept fs → (comes : Comes (trace_of fs) comp p node held o)
+pub kept-leave : (fs : Fields) (comp p : ℕ) (node : NodeId) (held : Seen) (o : Outcome) (r : Running) → Kept fs → (comes : Comes (trace_of fs) comp p node held o)
     → slice_get fs.running (comp - 1 - fs.first) ≡ Some r → AreNamed (table_at fs.tables r.node r.epoch) (taken fs.script fs.tables r o).calls.comp.waiting
     → Kept (moved fs (Step.Leave comp)
     (risen ((play (trace_of fs)).decl (comp - 1)) (length fs.script.micros) ((play (trace_of fs)).node (comp - 1)) (ended_at comes.come.call o) fs.local)
@@ -274,7 +275,7 @@ kept-leave fs comp p node held o r kept comes at_place named =
     let box : held ≡ seen_in fs.script v q result.0 = comes.come.box ∙ ap (λ (n : ℕ). after_step (box_of (trace_of fs) comp n) m) (sym same) in
     let slots : Slotted = record fs.slots { boxes = set fs.slots.boxes (node.0 * fs.slots.micros + p) (Some held) } in
     let local : List ℕ = risen (P.decl k) (length fs.script.micros) v (ended_at c o) fs.local in
-    let running : List Computing = set fs.running (k - fs.first) (taken fs.script fs.tables r o) in
+    let running : List Running = set fs.running (k - fs.first) (taken fs.script fs.tables r o) in
     let next : Fields = moved fs (Step.Leave comp) local slots running fs.unended (fs.away - 1) fs.stopped in
     let first : fs.first ≡ cleared_comps (trace_of fs) = kept.first in
     let since = at.since in
@@ -375,8 +376,8 @@ kept-release fs comp p x node kept at e =
     })
 
 -- the turn that is kept of a computation
-pub turn-here : (fs : Fields) (t : Trace) (comp p : ℕ) (r : Computing) (node : NodeId) (turn : Interval) → trace_of fs ≡ t → p < length t.script.micros
-    → IsRunning t.script t.exts (state t) (comp - 1) r → node ≡ (ext_at t.exts (comp - 1)).node → slice_get r.turns p ≡ Some turn → turn ≡ turn_of (state (trace_of fs)) (comp - 1) node.0 p
+pub turn-here : (fs : Fields) (t : Trace) (comp p : ℕ) (r : Running) (node : NodeId) (turn : Interval) → trace_of fs ≡ t → p < length t.script.micros
+    → IsRunning t.script t.exts (state t) (comp - 1) r → node ≡ (ext_at t.exts (comp - 1)).node → slice_get r.turns.items p ≡ Some turn → turn ≡ turn_of (state (trace_of fs)) (comp - 1) node.0 p
 turn-here fs t comp p r node turn view below is is_at there =
     let same : Some turn ≡ Some (turn_of (state t) (comp - 1) (ext_at t.exts (comp - 1)).node.0 p) = sym there ∙ is.turns.value p below in
     let here : turn ≡ turn_of (state t) (comp - 1) (ext_at t.exts (comp - 1)).node.0 p = cc in
@@ -397,7 +398,7 @@ turn_is fs comp p node slot turn kept at is_slot is_turn =
     rw (is_turn, is_slot, ap (λ (n : NodeId). n.0) at.is_at)
     (slot-within fs v p kept lt at.within, record { from = omega (arith, here, from); below = omega (arith, here, below) })
 
-pub kept-end : (fs : Fields) (comp : ℕ) (r : Computing) → Kept fs → IsDue (trace_of fs) (Step.End comp) → cleared_comps (trace_of fs) < comp
+pub kept-end : (fs : Fields) (comp : ℕ) (r : Running) → Kept fs → IsDue (trace_of fs) (Step.End comp) → cleared_comps (trace_of fs) < comp
     → slice_get fs.running (comp - 1 - fs.first) ≡ Some r
     → Kept (moved fs (Step.End comp) fs.local fs.slots (set fs.running (comp - 1 - fs.first) (record r { ended = true })) (fs.unended - 1) fs.away fs.stopped)
 kept-end fs comp r kept due since there =
@@ -405,7 +406,7 @@ kept-end fs comp r kept due since there =
     let k : ℕ = comp - 1 in
     let after : model.Core = model.finish core k in
     let first : fs.first ≡ cleared_comps (trace_of fs) = kept.first in
-    let ended : Computing = record r { ended = true } in
+    let ended : Running = record r { ended = true } in
     let runs : Runs fs.script fs.tables fs.exts core k r = runs-at fs comp r kept since there in
     let mine : Runs fs.script fs.tables fs.exts after k ended = record {
       is = record {
@@ -472,27 +473,27 @@ some-unended fs comp kept due =
     omega (arith, is, less)
 
 -- what is kept of a computation that a step is of
-pub item-there : (fs : Fields) (comp : ℕ) → Kept fs → cleared_comps (trace_of fs) < comp → comp - 1 < (state (trace_of fs)).count → (r : Computing) × (slice_get fs.running (comp - 1 - fs.first) ≡ Some r)
+pub item-there : (fs : Fields) (comp : ℕ) → Kept fs → cleared_comps (trace_of fs) < comp → comp - 1 < (state (trace_of fs)).count → (r : Running) × (slice_get fs.running (comp - 1 - fs.first) ≡ Some r)
 item-there fs comp kept since lt =
     let below : comp - 1 < length fs.exts = is_there fs comp kept lt in
-    item_at {A = Computing} fs.running (comp - 1 - fs.first) (place-within fs comp kept since (omega (arith, below)))
+    item_at {A = Running} fs.running (comp - 1 - fs.first) (place-within fs comp kept since (omega (arith, below)))
 
 pub takes-there : (fs : Fields) (comp p : ℕ) (node : NodeId) (held : Seen) (o : Outcome) (versions : Counters) → versions ≡ record { gv = fs.global; lv = fs.local } → Kept fs
-    → Comes (trace_of fs) comp p node held o → (r : Computing) × (slice_get fs.running (comp - 1 - fs.first) ≡ Some r) × TakesOutcome fs.script fs.tables versions r o
+    → Comes (trace_of fs) comp p node held o → (r : Running) × (slice_get fs.running (comp - 1 - fs.first) ≡ Some r) × TakesOutcome fs.script fs.tables versions r o
 takes-there fs comp p node held o versions is kept comes =
     let item = item-there fs comp kept comes.at.since comes.at.admitted in
     (item.0, item.1, takes fs comp p node held o versions item.0 is kept comes (runs-at fs comp item.0 kept comes.at.since item.1))
 
 -- the fields after it
-pub kept-left : (fs : Fields) (comp p : ℕ) (node : NodeId) (held : Seen) (o : Outcome) (running : List Computing) (local : List ℕ) → Kept fs → Comes (trace_of fs) comp p node held o
-    → ((r : Computing) → slice_get fs.running (comp - 1 - fs.first) ≡ Some r → running ≡ set fs.running (comp - 1 - fs.first) (taken fs.script fs.tables r o))
-    → ((r : Computing) → slice_get fs.running (comp - 1 - fs.first) ≡ Some r → AreNamed (table_at fs.tables r.node r.epoch) (taken fs.script fs.tables r o).calls.comp.waiting)
-    → ((r : Computing) (a : Active) (rest : List Active) → slice_get fs.running (comp - 1 - fs.first) ≡ Some r → r.calls.comp.active ≡ a ∷ rest
+pub kept-left : (fs : Fields) (comp p : ℕ) (node : NodeId) (held : Seen) (o : Outcome) (running : List Running) (local : List ℕ) → Kept fs → Comes (trace_of fs) comp p node held o
+    → ((r : Running) → slice_get fs.running (comp - 1 - fs.first) ≡ Some r → running ≡ set fs.running (comp - 1 - fs.first) (taken fs.script fs.tables r o))
+    → ((r : Running) → slice_get fs.running (comp - 1 - fs.first) ≡ Some r → AreNamed (table_at fs.tables r.node r.epoch) (taken fs.script fs.tables r o).calls.comp.waiting)
+    → ((r : Running) (a : Active) (rest : List Active) → slice_get fs.running (comp - 1 - fs.first) ≡ Some r → r.calls.comp.active ≡ a ∷ rest
     → local ≡ risen (decl_at fs.script r.calls.decl).decl (length fs.script.micros) r.node.0 (ended_at a.call o) fs.local)
     → Kept (moved fs (Step.Leave comp) local (record fs.slots { boxes = set fs.slots.boxes (node.0 * fs.slots.micros + p) (Some held) }) running fs.unended (fs.away - 1) fs.stopped)
 kept-left fs comp p node held o running local kept comes taken_is named lv =
     let item = item-there fs comp kept comes.at.since comes.at.admitted in
-    let r : Computing = item.0 in
+    let r : Running = item.0 in
     let runs : Runs fs.script fs.tables fs.exts (state (trace_of fs)) (comp - 1) r = runs-at fs comp r kept comes.at.since item.1 in
     let head = head_is ((state (trace_of fs)).comp (comp - 1)) comes.come.call comes.come.moment comes.come.next in
     let active : r.calls.comp.active ≡ head.0 ∷ head.1 = ap (λ (d : Computation). d.active) runs.is.comp ∙ head.2 in
@@ -503,8 +504,8 @@ kept-left fs comp p node held o running local kept comes taken_is named lv =
     ∙ ap (λ (c : Call). risen ((play (trace_of fs)).decl (comp - 1)) (length fs.script.micros) ((play (trace_of fs)).node (comp - 1)) (ended_at c o) fs.local) head.3)) in
     rw (taken_is r item.1, is_local) (kept-leave fs comp p node held o r kept comes item.1 (named r item.1))
 
-pub kept-ended : (fs : Fields) (comp : ℕ) (running : List Computing) → Kept fs → IsDue (trace_of fs) (Step.End comp) → cleared_comps (trace_of fs) < comp
-    → ((r : Computing) → slice_get fs.running (comp - 1 - fs.first) ≡ Some r → running ≡ set fs.running (comp - 1 - fs.first) (record r { ended = true }))
+pub kept-ended : (fs : Fields) (comp : ℕ) (running : List Running) → Kept fs → IsDue (trace_of fs) (Step.End comp) → cleared_comps (trace_of fs) < comp
+    → ((r : Running) → slice_get fs.running (comp - 1 - fs.first) ≡ Some r → running ≡ set fs.running (comp - 1 - fs.first) (record r { ended = true }))
     → Kept (moved fs (Step.End comp) fs.local fs.slots running (fs.unended - 1) fs.away fs.stopped)
 kept-ended fs comp running kept due since is =
     let item = item-there fs comp kept since due.enabled.admitted in

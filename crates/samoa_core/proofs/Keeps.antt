@@ -21,7 +21,8 @@ use Rattle.samoa_core.specs.Grids.{Grid, Row}
 use Rattle.samoa_core.specs.Known.{decl_number}
 use Rattle.samoa_core.specs.Places.{slot_in}
 use Rattle.samoa_core.specs.Room.{to_come}
-use Rattle.samoa_core.specs.Running.{Computing, IsRunning, turn_of}
+use Rattle.samoa_core.specs.Running.{IsRunning, turn_of}
+use Rattle.samoa_core.specs.declared.running.Running.{Running}
 use Rattle.samoa_core.specs.declared.running.Interval.{Interval}
 use Rattle.samoa_core.specs.Since.{cleared_comps}
 use Rattle.samoa_core.specs.Slots.{Slotted, row_of, rows_of, set_up_at}
@@ -96,7 +97,7 @@ kept-new script tables slots global local cells clears_room in_range built is_ta
 }
 
 -- the fields after a step that neither admits nor clears
-abbrev pub moved : Fields → Step → List ℕ → Slotted → List Computing → ℕ → ℕ → Bool → Fields
+abbrev pub moved : Fields → Step → List ℕ → Slotted → List Running → ℕ → ℕ → Bool → Fields
 moved fs step local slots running unended away stopped = record fs {
   journal = fs.journal ++ step ∷ [];
   promised = fs.promised - 1;
@@ -120,7 +121,7 @@ some_promised fs step kept fit due =
     let enough : to_come (play (trace_of fs)) (state (trace_of fs)) ≤ fs.promised = kept.promised in
     omega (arith, less, enough)
 
-pub kept-with : (fs : Fields) (step : Step) (local : List ℕ) (slots : Slotted) (running : List Computing) (unended away : ℕ) (stopped : Bool)
+pub kept-with : (fs : Fields) (step : Step) (local : List ℕ) (slots : Slotted) (running : List Running) (unended away : ℕ) (stopped : Bool)
     → Kept fs → IsDue (trace_of fs) step → IsNoAdmission (model_step step) → slots.micros ≡ length fs.script.micros
     → Holds (moved fs step local slots running unended away stopped) (after_step (play (trace_of fs)) (state (trace_of fs)) step)
     → Kept (moved fs step local slots running unended away stopped)
@@ -146,7 +147,7 @@ kept-with fs step local slots running unended away stopped kept due fit micros h
     }
 
 -- a computation of which nothing changes
-pub runs-on : (script : Script) (tables : List (List Table)) (exts more : List Ext) (core after : model.Core) (k : ℕ) (r : Computing) → k < after.count
+pub runs-on : (script : Script) (tables : List (List Table)) (exts more : List Ext) (core after : model.Core) (k : ℕ) (r : Running) → k < after.count
     → ext_at more k ≡ ext_at exts k → ((v p : ℕ) → turn_of after k v p ≡ turn_of core k v p) → after.comp k ≡ core.comp k → after.table k ≡ core.table k
     → after.ended k ≡ core.ended k → Runs script tables exts core k r → Runs script tables more after k r
 runs-on script tables exts more core after k r lt ext turn comp table ended runs = record {
@@ -171,7 +172,7 @@ runs-on script tables exts more core after k r lt ext turn comp table ended runs
 }
 
 -- what is kept of a computation that was admitted since the last clear
-pub runs-at : (fs : Fields) (comp : ℕ) (r : Computing) → Kept fs → cleared_comps (trace_of fs) < comp → slice_get fs.running (comp - 1 - fs.first) ≡ Some r
+pub runs-at : (fs : Fields) (comp : ℕ) (r : Running) → Kept fs → cleared_comps (trace_of fs) < comp → slice_get fs.running (comp - 1 - fs.first) ≡ Some r
     → Runs fs.script fs.tables fs.exts (state (trace_of fs)) (comp - 1) r
 runs-at fs comp r kept since is =
     let first : fs.first ≡ cleared_comps (trace_of fs) = kept.first in
@@ -186,12 +187,12 @@ place-within fs comp kept since most =
     omega (arith, first, since, most, size)
 
 -- what is there
-pub there : (fs : Fields) (at : ℕ) (r : Computing) → at < length fs.running → r ≡ get_or fs.running at r → slice_get fs.running at ≡ Some r
+pub there : (fs : Fields) (at : ℕ) (r : Running) → at < length fs.running → r ≡ get_or fs.running at r → slice_get fs.running at ≡ Some r
 there fs at r lt e =
-    let item = item_at {A = Computing} fs.running at lt in
-    subst (λ (x : Computing). slice_get fs.running at ≡ Some x) (sym (e ∙ get_is {A = Computing} fs.running at item.0 r item.1)) item.1
+    let item = item_at {A = Running} fs.running at lt in
+    subst (λ (x : Running). slice_get fs.running at ≡ Some x) (sym (e ∙ get_is {A = Running} fs.running at item.0 r item.1)) item.1
 
-pub running-is : (fs : Fields) (t : Trace) (comp : ℕ) (r : Computing) → trace_of fs ≡ t → Kept fs → cleared_comps t < comp → comp ≤ length t.exts
+pub running-is : (fs : Fields) (t : Trace) (comp : ℕ) (r : Running) → trace_of fs ≡ t → Kept fs → cleared_comps t < comp → comp ≤ length t.exts
     → r ≡ get_or fs.running (comp - 1 - fs.first) r → IsRunning t.script t.exts (state t) (comp - 1) r
 running-is fs t comp r view kept since most e =
     let since_here : cleared_comps (trace_of fs) < comp = subst (λ (x : Trace). cleared_comps x < comp) (sym view) since in

@@ -16,7 +16,8 @@ use Rattle.samoa_core.specs.Places.{away_in, slot_in}
 use Rattle.samoa_core.specs.Room.{to_come}
 use Rattle.samoa_core.specs.Grids.{Grid}
 use Rattle.samoa_core.specs.Slots.{Slotted}
-use Rattle.samoa_core.specs.Running.{Computing, IsRunning}
+use Rattle.samoa_core.specs.Running.{IsRunning}
+use Rattle.samoa_core.specs.declared.running.Running.{Running}
 
 -- the fields of a core. Those that run were admitted since the last clear
 pub record Fields : Type 0 where
@@ -33,7 +34,7 @@ pub record Fields : Type 0 where
   pub journal : List Step
   pub promised : ℕ
   pub first : ℕ
-  pub running : List Computing
+  pub running : List Running
   pub unended : ℕ
   pub away : ℕ
   pub stopped : Bool
@@ -48,13 +49,13 @@ pub record AreTables (script : Script) (tables : List (List Table)) : Type 0 whe
   pub events : (node : NodeId) (epoch : ℕ) → epoch < length (epochs_of tables node) → length (table_at tables node epoch) ≡ length script.events
 
 -- the table of computation k is that of its epoch, and names the events of its waiting calls
-pub record HasTable (tables : List (List Table)) (core : model.Core) (k : ℕ) (r : Computing) : Type 0 where
+pub record HasTable (tables : List (List Table)) (core : model.Core) (k : ℕ) (r : Running) : Type 0 where
   pub epoch : r.epoch < length (epochs_of tables r.node)
   pub table : table_at tables r.node r.epoch ≡ core.table k
   pub named : AreNamed (core.table k) (core.comp k).waiting
 
 -- it is computation k
-pub record Runs (script : Script) (tables : List (List Table)) (exts : List Ext) (core : model.Core) (k : ℕ) (r : Computing) : Type 0 where
+pub record Runs (script : Script) (tables : List (List Table)) (exts : List Ext) (core : model.Core) (k : ℕ) (r : Running) : Type 0 where
   pub is : IsRunning script exts core k r
   pub table : HasTable tables core k r
 
@@ -72,7 +73,7 @@ pub record Holds (fs : Fields) (core : model.Core) : Type 0 where
   pub local : Grid fs.script.nodes (length fs.script.micros) fs.local core.local
   pub slots : Grid fs.script.nodes (length fs.script.micros) fs.slots.boxes (slot_in fs.script core)
   pub size : length fs.running ≡ length fs.exts - fs.first
-  pub running : (i : ℕ) (r : Computing) → slice_get fs.running i ≡ Some r → Runs fs.script fs.tables fs.exts core (fs.first + i) r
+  pub running : (i : ℕ) (r : Running) → slice_get fs.running i ≡ Some r → Runs fs.script fs.tables fs.exts core (fs.first + i) r
   pub past : (k : ℕ) → k < fs.first → core.ended k ≡ true
   pub unended : fs.unended ≡ unended core
   pub away : fs.away ≡ away_in fs.script core

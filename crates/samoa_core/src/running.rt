@@ -6,7 +6,7 @@ ghost use Rattle.samoa_bind.specs.Bound.{table_at};
 ghost use Rattle.samoa_calls.specs.Handed.{AreNamed, ended_at};
 ghost use Rattle.samoa_serial.specs.declared.call.Active.{Active};
 ghost use Rattle.samoa_versions.specs.Counters.{Counters};
-ghost use Rattle.samoa_core.specs.Running.{Computing};
+ghost use Rattle.samoa_core.specs.declared.running.Running.{Running};
 ghost use Rattle.samoa_core.specs.Leaving.{TakesOutcome, taken};
 ghost use Rattle.samoa_core.specs.Forms.{risen};
 
@@ -16,7 +16,6 @@ use samoa_bind::Tables;
 use samoa_calls::Comp;
 use samoa_model::{NodeId, Outcome, Script};
 use samoa_versions::Versions;
-use std::marker::Model;
 
 /// The local versions of a slot at which it is a computation's turn there: from the one on, up to before the other.
 #[derive(Clone, Copy)]
@@ -35,19 +34,11 @@ pub(crate) struct Running {
     pub(crate) ended: bool,
 }
 
-impl Model for Running {
-    ghost use Rattle.samoa_core.specs.Running.{Computing};
-
-    ghost Value = { Computing };
-
-    ghost view = { λ r. record { node = r.node; epoch = r.epoch; turns = r.turns.items; calls = r.calls; ended = r.ended } };
-}
-
 impl Running {
     /// Its turn at a microprotocol.
     pub(crate) fn turn(&self, micro: u32) -> Interval
-        requires { micro < length self.now.turns }
-        ensures { slice_get self.now.turns micro ≡ Some result }
+        requires { micro < length self.now.turns.items }
+        ensures { slice_get self.now.turns.items micro ≡ Some result }
     {
         self.turns[micro as usize]
     }
@@ -91,12 +82,12 @@ pub(crate) fn take_outcome_at(
     outcome: Outcome,
 )
     requires in_range { IsInRange script.now }
-    requires takes { (r : Computing) × (slice_get running.old.items at ≡ Some r) × TakesOutcome script.now tables.now versions.old r outcome }
-    ensures taken { (r : Computing) → slice_get running.old.items at ≡ Some r
+    requires takes { (r : Running) × (slice_get running.old.items at ≡ Some r) × TakesOutcome script.now tables.now versions.old r outcome }
+    ensures taken { (r : Running) → slice_get running.old.items at ≡ Some r
         → running.new.items ≡ set running.old.items at (taken script.now tables.now r outcome) }
-    ensures named { (r : Computing) → slice_get running.old.items at ≡ Some r
+    ensures named { (r : Running) → slice_get running.old.items at ≡ Some r
         → AreNamed (table_at tables.now r.node r.epoch) (taken script.now tables.now r outcome).calls.comp.waiting }
-    ensures lv { (r : Computing) (a : Active) (rest : List Active) → slice_get running.old.items at ≡ Some r → r.calls.comp.active ≡ a ∷ rest
+    ensures lv { (r : Running) (a : Active) (rest : List Active) → slice_get running.old.items at ≡ Some r → r.calls.comp.active ≡ a ∷ rest
         → versions.new.lv ≡ risen (decl_at script.now r.calls.decl).decl (length script.now.micros) r.node.0 (ended_at a.call outcome) versions.old.lv }
     ensures gv { versions.new.gv ≡ versions.old.gv }
 {

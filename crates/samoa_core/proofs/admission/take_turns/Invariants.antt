@@ -5,8 +5,8 @@ use Rattle.samoa_core.proofs.admission.take_turns.Given as goal
 
 abbrev pub invariant-loop-micro : goal.invariant-loop-micro
 invariant-loop-micro l = record {
-  turns : l.turns.items ≡ turns_taken l.decl.now l.columns l.node l.fn.versions.gv l.micro;
-  gv : l.versions.gv ≡ raised l.decl.now l.columns l.node l.fn.versions.gv l.micro;
+  turns : l.turns.items ≡ turns_taken l.decl l.columns l.node l.fn.versions.gv l.micro;
+  gv : l.versions.gv ≡ raised l.decl l.columns l.node l.fn.versions.gv l.micro;
   lv : l.versions.lv ≡ l.fn.versions.lv;
   room : l.columns ≤ vec_capacity l.turns;
   below : l.micro ≤ l.columns;

@@ -21,5 +21,5 @@ invariant_of-self g c =
     let held : 0 < (state (trace_of fs)).cells = subst (λ (x : Trace). 0 < (state x).cells) (sym c.self.view_is) c.requires.held in
     let ok = c.self.inside.exts.ok in
     let first : c.len-2.result ≡ length fs.exts = omega (arith, ok, c.len-2.ensures) in
-    rw (c.push_reserved.ensures.items, c.push_reserved.ensures.capacity, c.len.ensures, c.keep.ensures, c.clear.ensures.items)
+    rw (c.push_reserved.ensures.items, c.push_reserved.ensures.capacity, c.len.ensures, c.keep.ensures, c.from.ensures, c.clear.ensures.items)
     (kept-clear fs c.len-2.result (min fs.promised (3 * c.len-2.result)) c.self.invariant all held first refl)
