@@ -1,17 +1,19 @@
 -- What an admission keeps of the fields of a core.
 use Rattle.std.proofs.Common.{arith, ◌≡◌, ◌≢◌, ◌⊎◌, inl, inr, ℕ, zero, suc, ◌+◌, ◌-◌, ◌*◌, ◌<◌, ◌≤◌, refl, sym, ap, subst, ◌∙◌, List, [], ◌∷◌, ◌++◌, length, length-append, get_or, min, Bool, false, Option, Some, None}
 use Rattle.std.proofs.lemmas.List.{get_or_append_left, get_or_push}
+use Rattle.std.proofs.lemmas.List.Elements.{All-nil}
 use Rattle.samoa_model.specs.Allowed.{weight}
 use Rattle.samoa_model.specs.Cells.{cells_of}
 use Rattle.samoa_model.specs.Range.{IsExtOf}
-use Rattle.samoa_model.specs.Scripts.{Table, decl_of, first_table}
+use Rattle.samoa_model.specs.Scripts.{Table, caused, decl_of, root_of}
 use Rattle.samoa_model.specs.declared.handler.Moment.{Moment}
+use Rattle.samoa_model.specs.declared.ids.NodeId.{NodeId}
 use Rattle.samoa_model.specs.declared.record.Ext.{Ext}
 use Rattle.samoa_model.specs.declared.record.Step.{Step}
 use Rattle.samoa_model.specs.declared.script.Decl.{Decl}
 use Rattle.samoa_model.specs.declared.script.Script.{Script}
+use Rattle.samoa_bind.specs.Bound.{epochs_of, table_at}
 use Rattle.samoa_calls.specs.Held.{Held, handlers_of}
-use Rattle.samoa_calls.specs.Handed.{AreNamed}
 use Rattle.samoa_serial.specs.declared.call.Call.{Call}
 use Rattle.samoa_serial.specs.declared.call.Waiting.{Waiting}
 use Rattle.samoa_serial.specs.Alone.{next_step}
@@ -24,22 +26,24 @@ use Rattle.samoa_invariant.specs.State as model
 use Rattle.samoa_invariant.specs.State.{home_of, left, left_of, named, shorts, sum_to, to_end}
 use Rattle.samoa_invariant.specs.Runs.{IsDue, IsRun, Trace, ext_at, no_ext, play, play_of, state, with_ext, with_step}
 use Rattle.samoa_invariant.proofs.Agrees.{turns-agree}
-use Rattle.samoa_invariant.proofs.Further.{version-most}
 use Rattle.samoa_invariant.proofs.Room.{admitted_left, turns-most}
 use Rattle.samoa_invariant.proofs.Slots.{put-else, put-here}
-use Rattle.samoa_invariant.proofs.Traces.{invariant, is_run-with_ext, is_run-with_step, state-ext, state-step}
-use Rattle.samoa_invariant.proofs.Versions.{same_or_not, weight_at-else, weight_at-is}
-use Rattle.samoa_core.specs.Admission.{raised, started, steps_of, taken_versions}
+use Rattle.samoa_invariant.proofs.Traces.{count-few, invariant, is_run-with_ext, is_run-with_step, state-ext, state-step}
+use Rattle.samoa_invariant.proofs.Versions.{same_or_not, version-most, weight_at-else, weight_at-is}
+use Rattle.samoa_core.specs.Admission.{admitted, last_table, raised, started, steps_of, turns_taken}
 use Rattle.samoa_core.specs.Known.{decl_number}
+use Rattle.samoa_core.specs.Later.{IsStill}
 use Rattle.samoa_core.specs.Room.{spare_of, spare_when, to_come}
-use Rattle.samoa_core.specs.Scans.{IsStill}
-use Rattle.samoa_core.specs.Admission.{admitted}
+use Rattle.samoa_core.specs.Running.{turn_of}
+use Rattle.samoa_core.specs.declared.running.Running.{Running}
+use Rattle.samoa_core.specs.declared.running.Interval.{Interval}
 use Rattle.samoa_core.specs.Since.{cleared_comps}
-use Rattle.samoa_core.specs.Slots.{Grid, Row}
-use Rattle.samoa_core.specs.Kept.{Fields, Holds, Kept, held_of, trace_of}
+use Rattle.samoa_core.specs.Kept.{Fields, Holds, Kept, Runs, trace_of, unended}
+use Rattle.samoa_core.proofs.Counts.{unended-admit, unended-most}
 use Rattle.samoa_core.proofs.Declares.{weight-most}
-use Rattle.samoa_core.proofs.Grids.{grid-row, grid-within_same, row-push}
-use Rattle.samoa_core.proofs.Rules.{caused-same, decl-of, table-at}
+use Rattle.samoa_core.proofs.Grids.{each-push}
+use Rattle.samoa_core.proofs.Keeps.{runs-on}
+use Rattle.samoa_core.proofs.Rules.{caused-same, decl-of}
 use Rattle.samoa_core.proofs.Since.{cleared-ext, cleared-step}
 use Rattle.samoa_core.proofs.Taken.{grid-raised, length-taken, taken-at}
 use Rattle.samoa_core.proofs.Toll.{spare-most, sum-le}
@@ -110,18 +114,16 @@ come-admit P core =
         ∙ ap (λ (h : ℕ). spare_when core.stopped h) (admit_home P core j (next_step (core.comp j)))
 
 -- the fields after an admission
-abbrev pub after_admission : Fields → Ext → ℕ → ℕ → ℕ → ℕ → ℕ → Held → List ℕ → List ℕ → Fields
-after_admission fs ext number held promised clears_room journal_room comp global private = record fs {
+abbrev pub after_admission : Fields → Ext → ℕ → ℕ → ℕ → ℕ → List ℕ → Running → Fields
+after_admission fs ext number held promised clears_room global r = record fs {
   held = held;
   global = global;
   exts = fs.exts ++ ext ∷ [];
   clears_room = clears_room;
   journal = fs.journal ++ Step.Admit number ∷ [];
-  journal_room = journal_room;
   promised = promised;
-  comps = fs.comps ++ comp ∷ [];
-  private = fs.private ++ private;
-  ended = fs.ended ++ false ∷ [];
+  running = fs.running ++ r ∷ [];
+  unended = fs.unended + 1;
 }
 
 -- what is admitted may be
@@ -158,172 +160,194 @@ small fs v p kept lt below =
     let cell : get_or fs.global (v * length fs.script.micros + p) 0 ≡ (state t).global v p = global-is fs v p kept lt below in
     omega (arith, all, is, bound, cell)
 
--- a computation that has just begun: none of its calls waits
-just_begun : (fs : Fields) (ext : Ext) → Kept fs → ext_at (fs.exts ++ ext ∷ []) (state (trace_of fs)).count ≡ ext → Invariant (play (trace_of fs)) (state (trace_of fs))
-    → (started fs.script ext).comp.waiting ≡ []
-    → held_of fs.script (fs.exts ++ ext ∷ []) (model.admit (play (with_ext (trace_of fs) ext)) (state (trace_of fs))) (state (trace_of fs)).count ≡ started fs.script ext
-just_begun fs ext kept new_at i waits =
-    let t : Trace = trace_of fs in
-    let P : Play = play (with_ext t ext) in
-    let core : model.Core = state t in
-    let k : ℕ = core.count in
-    let first : Table = first_table fs.script in
-    let table : P.change k (core.present (P.node k)) ≡ first =
-    caused-same fs.script kept.built.unchanging (ext_at (fs.exts ++ ext ∷ []) k).cause (core.present (P.node k))
-    ∙ (i.booked.present (P.node k) ∙ table-at t kept.built k (P.node k)) in
-    let comp : (model.admit P core).comp k ≡ (started fs.script ext).comp =
-    put-here {A = Computation} core.comp k k (start (attempts_of (P.decl k) (P.change k (core.present (P.node k)))) (P.budget k) (P.root k) (P.args k)) refl
-    ∙ (ap (λ (x : Table). start (attempts_of (P.decl k) x) (P.budget k) (P.root k) (P.args k)) table
-    ∙ ap (λ (x : Ext). (started fs.script x).comp) new_at) in
-    ap (λ (d : Computation). let h : Held = record { decl = decl_number fs.script (ext_at (fs.exts ++ ext ∷ []) k); comp = d; waiting_handlers = handlers_of first d.waiting } in h) comp
-    ∙ (ap (λ (x : Ext). let h : Held = record { decl = decl_number fs.script x; comp = (started fs.script ext).comp; waiting_handlers = handlers_of first (started fs.script ext).comp.waiting } in h) new_at
-    ∙ ap (λ (ws : List Waiting). let h : Held = record { decl = decl_number fs.script ext; comp = (started fs.script ext).comp; waiting_handlers = handlers_of first ws } in h) waits)
+-- what an admission knows
+pub record Admits (t : Trace) (ext : Ext) : Type 0 where
+  pub known : IsExtOf t.script ext
+  pub few : length t.exts < 100000
+  pub fits : (state t).cells + cells_of t.script ext ≤ t.cells
 
-pub kept-admission : (fs : Fields) (ext : Ext) (number held promised clears_room journal_room : ℕ) (comp : Held) (global private : List ℕ)
-    → Kept fs → IsExtOf fs.script ext → length fs.exts < 100000 → (state (trace_of fs)).cells + cells_of fs.script ext ≤ fs.cells
+-- the record of the computation that is admitted
+pub record IsFresh (fs : Fields) (ext : Ext) (r : Running) : Type 0 where
+  pub node : r.node ≡ ext.node
+  pub epoch : r.epoch + 1 ≡ length (epochs_of fs.tables ext.node)
+  pub turns : r.turns.items ≡ turns_taken (decl_of fs.script ext).decl (length fs.script.micros) ext.node.0 fs.global (length fs.script.micros)
+  pub calls : r.calls ≡ started fs.script fs.tables ext
+  pub none_waits : r.calls.comp.waiting ≡ []
+  pub unended : r.ended ≡ false
+
+-- the present table is that of the last epoch, and an admission by which no binding changes keeps it
+same-table : (fs : Fields) (ext : Ext) (node : NodeId) (epoch : ℕ) → Kept fs → node.0 < fs.script.nodes → epoch + 1 ≡ length (epochs_of fs.tables node)
+    → table_at fs.tables node epoch ≡ caused fs.script ext.cause ((state (trace_of fs)).present node.0)
+same-table fs ext node epoch kept lt last =
+    kept.holds.present node epoch lt last ∙ sym (caused-same fs.script kept.built.unchanging ext.cause ((state (trace_of fs)).present node.0))
+
+-- the computation that is admitted, in the state after that
+runs-new : (fs : Fields) (ext : Ext) (r : Running) → Kept fs → IsExtOf fs.script ext → IsFresh fs ext r
+    → Runs fs.script fs.tables (fs.exts ++ ext ∷ []) (model.admit (play (with_ext (trace_of fs) ext)) (state (trace_of fs))) (length fs.exts) r
+runs-new fs ext r kept known is =
+    let P : Play = play (with_ext (trace_of fs) ext) in
+    let core : model.Core = state (trace_of fs) in
+    let n : ℕ = length fs.exts in
+    let after : model.Core = model.admit P core in
+    let all : core.count ≡ n = kept.holds.admitted in
+    let mine : ext_at (fs.exts ++ ext ∷ []) n ≡ ext = new_ext fs.exts ext in
+    let mine_at : ext_at (fs.exts ++ ext ∷ []) core.count ≡ ext = ap (λ (m : ℕ). ext_at (fs.exts ++ ext ∷ []) m) all ∙ mine in
+    let epoch : r.epoch < length (epochs_of fs.tables r.node) = (let e = is.epoch in rw is.node (omega (arith, e))) in
+    let last : length (epochs_of fs.tables ext.node) - 1 ≡ r.epoch = (let e = is.epoch in omega (arith, e)) in
+    let present : last_table fs.tables ext.node ≡ P.change core.count (core.present (P.node core.count)) =
+    same-table fs ext ext.node (length (epochs_of fs.tables ext.node) - 1) kept known.node (let e = is.epoch in omega (arith, e))
+    ∙ ap (λ (x : Ext). caused fs.script x.cause (core.present x.node.0)) (sym mine_at) in
+    let table : table_at fs.tables r.node r.epoch ≡ after.table n =
+    ap (λ (v : NodeId). table_at fs.tables v r.epoch) is.node
+    ∙ (ap (λ (e : ℕ). table_at fs.tables ext.node e) (sym last)
+    ∙ (present ∙ sym (put-here {A = Table} core.table core.count n (P.change core.count (core.present (P.node core.count))) (sym all)))) in
+    let comp : r.calls.comp ≡ after.comp n =
+    ap (λ (h : Held). h.comp) is.calls
+    ∙ (ap (λ (x : Ext). start (attempts_of (decl_of fs.script x).decl (last_table fs.tables ext.node)) (decl_of fs.script x).budget (root_of fs.script x.cause) x.args) (sym mine_at)
+    ∙ (ap (λ (x : Table). start (attempts_of (P.decl core.count) x) (P.budget core.count) (P.root core.count) (P.args core.count)) present
+    ∙ sym (put-here {A = Computation} core.comp core.count n _ (sym all)))) in
+    let waits : (after.comp n).waiting ≡ [] = ap (λ (d : Computation). d.waiting) (sym comp) ∙ is.none_waits in
+    let from : (p : ℕ) → after.from n ext.node.0 p ≡ core.global ext.node.0 p = λ p. ap (λ (f : At ℕ). f ext.node.0 p) (put-here {A = At ℕ} core.from core.count n core.global (sym all)) in
+    let private : (p : ℕ) → after.private n ext.node.0 p ≡ core.global ext.node.0 p + weight (decl_of fs.script ext).decl p = λ p.
+    ap (λ (f : At ℕ). f ext.node.0 p) (put-here {A = At ℕ} core.private core.count n _ (sym all))
+    ∙ (ap (λ (w : ℕ). core.global ext.node.0 p + w) (weight_at-is P core.count ext.node.0 p (ap (λ (x : Ext). x.node.0) (sym mine_at)))
+    ∙ ap (λ (x : Ext). core.global ext.node.0 p + weight (decl_of fs.script x).decl p) mine_at) in
+    record {
+      is = record {
+        admitted = omega (arith, all);
+        node = is.node ∙ ap (λ (x : Ext). x.node) (sym mine);
+        decl = ap (λ (h : Held). h.decl) is.calls ∙ ap (λ (x : Ext). decl_number fs.script x) (sym mine);
+        turns = record {
+          size = ap length is.turns ∙ length-taken (decl_of fs.script ext).decl (length fs.script.micros) ext.node.0 fs.global (length fs.script.micros);
+          value = λ p below. rw (is.turns, mine, from p, private p)
+              (taken-at fs.script.nodes (length fs.script.micros) ext.node.0 (length fs.script.micros) p fs.global core.global (decl_of fs.script ext).decl known.node (omega arith) kept.holds.global below);
+        };
+        comp = comp;
+        waiting = ap (λ (h : Held). h.waiting_handlers) is.calls ∙ sym (ap (λ (ws : List Waiting). handlers_of (after.table n) ws) waits);
+        ended = is.unended ∙ sym (put-here {A = Bool} core.ended core.count n false (sym all));
+      };
+      table = record {
+        epoch = epoch;
+        table = table;
+        named = rw waits (All-nil (λ (w : Waiting). w.event.0 < length (after.table n)));
+      };
+    }
+
+pub kept-admission : (fs : Fields) (ext : Ext) (number held promised clears_room : ℕ) (global : List ℕ) (r : Running)
+    → Kept fs → Admits (trace_of fs) ext → IsFresh fs ext r
     → number ≡ length fs.exts + 1 → held ≡ fs.held + cells_of fs.script ext
-    → promised ≡ fs.promised + steps_of (decl_of fs.script ext) → length fs.journal + 1 + promised ≤ journal_room → length fs.clears < clears_room
-    → comp ≡ started fs.script ext → comp.comp.waiting ≡ []
+    → promised ≡ fs.promised + steps_of (decl_of fs.script ext) → length fs.clears < clears_room
     → global ≡ raised (decl_of fs.script ext).decl (length fs.script.micros) ext.node.0 fs.global (length fs.script.micros)
-    → private ≡ taken_versions (decl_of fs.script ext).decl (length fs.script.micros) ext.node.0 fs.global (length fs.script.micros)
-    → Kept (after_admission fs ext number held promised clears_room journal_room comp global private)
-kept-admission fs ext number held promised clears_room journal_room comp global private kept known less fits is_number is_held is_promised room clears is_comp waits is_global is_private =
+    → Kept (after_admission fs ext number held promised clears_room global r)
+kept-admission fs ext number held promised clears_room global r kept admits is is_number is_held is_promised clears is_global =
     let t : Trace = trace_of fs in
     let t1 : Trace = with_ext t ext in
     let P : Play = play t1 in
     let core : model.Core = state t in
     let k : ℕ = core.count in
     let n : ℕ = length fs.exts in
-    let rows : ℕ = n - fs.first in
     let micros : ℕ = length fs.script.micros in
     let after : model.Core = model.admit P core in
+    let known : IsExtOf fs.script ext = admits.known in
     let all : core.count ≡ n = kept.holds.admitted in
     let same : state t1 ≡ core = state-ext t ext kept.is_run in
     let run1 : IsRun t1 = is_run-with_ext t ext kept.is_run in
-    let due : IsDue t1 (Step.Admit number) = subst (λ (m : ℕ). IsDue t1 (Step.Admit m)) (sym is_number) (is_due fs ext kept less fits) in
+    let due : IsDue t1 (Step.Admit number) = subst (λ (m : ℕ). IsDue t1 (Step.Admit m)) (sym is_number) (is_due fs ext kept admits.few admits.fits) in
     let longer : length (fs.exts ++ ext ∷ []) ≡ n + 1 = length-append fs.exts (ext ∷ []) in
     let first_most : fs.first ≤ n = kept.first_most in
-    let more_rows : suc rows ≡ length (fs.exts ++ ext ∷ []) - fs.first = omega arith in
-    let last : fs.first + rows ≡ k = omega arith in
+    let size : length fs.running ≡ n - fs.first = kept.holds.size in
     let new_at : ext_at (fs.exts ++ ext ∷ []) k ≡ ext = ap (λ (m : ℕ). ext_at (fs.exts ++ ext ∷ []) m) all ∙ new_ext fs.exts ext in
     let node : P.node k ≡ ext.node.0 = ap (λ (x : Ext). x.node.0) new_at in
     let decl : P.decl k ≡ (decl_of fs.script ext).decl = ap (λ (x : Ext). (decl_of fs.script x).decl) new_at in
-    let i : Invariant (play t) core = invariant t kept.is_run in
-    let new : Fields = after_admission fs ext number held promised clears_room journal_room comp global private in
+    let new : Fields = after_admission fs ext number held promised clears_room global r in
     let step_is : state (with_step t1 (Step.Admit number)) ≡ after =
     state-step t1 (Step.Admit number) run1 ∙ ap (λ (c : model.Core). model.admit P c) same in
     let held_cells : core.cells ≡ fs.held = sym kept.holds.held in
     let cells : P.cells k ≡ cells_of fs.script ext = ap (λ (x : Ext). cells_of fs.script x) new_at in
+    let room : core.cells + cells_of fs.script ext ≤ fs.cells = admits.fits in
     let come : to_come P after ≤ to_come P core + (2 * turns P k + length (named (P.decl k)) + 4) = come-admit P core in
     let come_old : to_come P core ≤ to_come (play t) core =
     come-agree P (play t) core (subst (λ (m : ℕ). Agree P (play t) m) (sym all) (agree fs.script fs.cells fs.exts ext)) in
     let few_turns : turns P k ≤ 5 * (decl_of fs.script (ext_at (fs.exts ++ ext ∷ []) k)).budget + 4 = turns-most t1 k kept.in_range (omega arith) in
     let budget : (decl_of fs.script (ext_at (fs.exts ++ ext ∷ []) k)).budget ≡ (decl_of fs.script ext).budget = ap (λ (x : Ext). (decl_of fs.script x).budget) new_at in
     let names : length (named (P.decl k)) ≡ length (named (decl_of fs.script ext).decl) = ap (λ (d : Decl). length (named d)) decl in
-    let enough : to_come (play t) core ≤ fs.promised = kept.holds.promised in
+    let enough : to_come (play t) core ≤ fs.promised = kept.promised in
+    let left : to_come P after ≤ promised = omega arith in
     let holds : Holds new after = record {
       admitted = omega arith;
       held = omega arith;
       within = omega arith;
+      present = λ v epoch lt last. kept.holds.present v epoch lt last ∙ sym (present_is v.0 (same_or_not v.0 (P.node k)));
       global = rw is_global (grid-raised fs.script.nodes micros ext.node.0 fs.global core.global after.global (decl_of fs.script ext).decl known.node kept.holds.global
           (λ p. ap (λ (w : ℕ). core.global ext.node.0 p + w) (weight_at-is P k ext.node.0 p (sym node) ∙ ap (λ (d : Decl). weight d p) decl))
           (λ v p ne. let none : weight_at P k v p ≡ zero = weight_at-else P k v p (λ e. ne (e ∙ node)) in omega (arith, none)));
       local = kept.holds.local;
       slots = kept.holds.slots;
-      private = subst (λ (r : ℕ). Grid r micros (fs.private ++ private) (λ i p. after.private (fs.first + i) (P.node (fs.first + i)) p)) more_rows
-          (rw is_private (grid-row rows micros fs.private (taken_versions (decl_of fs.script ext).decl micros ext.node.0 fs.global micros)
-          (λ i p. after.private (fs.first + i) (P.node (fs.first + i)) p)
-          (grid-within_same rows micros fs.private (λ i p. core.private (fs.first + i) ((play t).node (fs.first + i)) p) (λ i p. after.private (fs.first + i) (P.node (fs.first + i)) p)
-          (λ i p ri cp. old_private i p (omega arith)) kept.holds.private)
-          (length-taken (decl_of fs.script ext).decl micros ext.node.0 fs.global micros)
-          (λ p below. taken-at fs.script.nodes micros ext.node.0 micros p fs.global core.global (decl_of fs.script ext).decl known.node (omega arith) kept.holds.global below
-          ∙ ap (λ (x : ℕ). Some x) (sym (new_private p rows last node decl)))));
-      comps = subst (λ (r : ℕ). Row r (fs.comps ++ comp ∷ []) (λ i. held_of fs.script (fs.exts ++ ext ∷ []) after (fs.first + i))) more_rows
-          (row-push rows fs.comps (λ i. held_of fs.script fs.exts core (fs.first + i)) (λ i. held_of fs.script (fs.exts ++ ext ∷ []) after (fs.first + i)) comp kept.holds.comps
-          (λ i below. old_comp i (omega arith)) (new_comp rows last new_at i ∙ sym is_comp));
-      ended = subst (λ (r : ℕ). Row r (fs.ended ++ false ∷ []) (λ i. after.ended (fs.first + i))) more_rows
-          (row-push rows fs.ended (λ i. core.ended (fs.first + i)) (λ i. after.ended (fs.first + i)) false kept.holds.ended
-          (λ i below. put-else {A = Bool} core.ended k (fs.first + i) false (λ e. omega arith)) (put-here {A = Bool} core.ended k (fs.first + rows) false last));
-      past = λ j lt. put-else {A = Bool} core.ended k j false (λ e. omega arith) ∙ kept.holds.past j lt;
-      named = λ j le lt. names_at j le (omega arith) new_at i (same_or_not j k);
+      size = (let more = length-append fs.running (r ∷ []) in omega (arith, more, size, longer, first_most));
+      running = each-push fs.running r (λ i x. Runs fs.script fs.tables (fs.exts ++ ext ∷ []) after (fs.first + i) x)
+          (subst (λ (j : ℕ). Runs fs.script fs.tables (fs.exts ++ ext ∷ []) after j r) (let e : n ≡ fs.first + length fs.running = omega (arith, size, first_most) in e) (runs-new fs ext r kept known is))
+          (λ i x lt there. old_runs i x (omega (arith, lt, size)) (kept.holds.running i x there));
+      past = λ j lt. put-else {A = Bool} core.ended k j false (λ e. omega (arith, e, lt, all, first_most)) ∙ kept.holds.past j lt;
+      unended = (let was : fs.unended ≡ unended core = kept.holds.unended in
+      let more : unended after ≡ unended core + 1 = unended-admit core after refl refl in
+      omega (arith, was, more));
+      away = kept.holds.away;
       stopped = kept.holds.stopped;
-      promised = omega arith;
     } in
     record {
       in_range = kept.in_range;
       built = kept.built;
       tables = kept.tables;
       micros = kept.micros;
-      known = λ j lt. known_at j (omega arith) (same_or_not j n);
+      known = λ j lt. known_at j (omega (arith, lt, longer)) (same_or_not j n);
       is_run = is_run-with_step t1 (Step.Admit number) run1 due;
       first = kept.first ∙ (sym (cleared-ext t ext) ∙ sym (cleared-step t1 (Step.Admit number) run1));
-      first_most = omega arith;
+      first_most = omega (arith, first_most, longer);
       clears_room = λ some. clears;
-      room = omega (arith, room, length-append fs.journal (Step.Admit number ∷ []));
+      promised = subst (λ (c : model.Core). to_come P c ≤ promised) (sym step_is) left;
       holds = subst (λ (c : model.Core). Holds new c) (sym step_is) holds;
     }
   where
-    none_waits : (started fs.script ext).comp.waiting ≡ []
-    none_waits = ap (λ (h : Held). h.comp.waiting) (sym is_comp) ∙ waits
-
-    old_private : (i p : ℕ) → fs.first + i < (state (trace_of fs)).count
-        → (model.admit (play (with_ext (trace_of fs) ext)) (state (trace_of fs))).private (fs.first + i) ((play (with_ext (trace_of fs) ext)).node (fs.first + i)) p
-        ≡ (state (trace_of fs)).private (fs.first + i) ((play (trace_of fs)).node (fs.first + i)) p
-    old_private i p lt =
-        let all : (state (trace_of fs)).count ≡ length fs.exts = kept.holds.admitted in
-        ap (λ (f : At ℕ). f ((play (with_ext (trace_of fs) ext)).node (fs.first + i)) p)
-        (put-else {A = At ℕ} (state (trace_of fs)).private (state (trace_of fs)).count (fs.first + i) _ (λ e. omega arith))
-        ∙ ap (λ (x : Ext). (state (trace_of fs)).private (fs.first + i) x.node.0 p) (old_ext fs.exts ext (fs.first + i) (omega arith))
-
-    new_private : (p rows : ℕ) → fs.first + rows ≡ (state (trace_of fs)).count
-        → (play (with_ext (trace_of fs) ext)).node (state (trace_of fs)).count ≡ ext.node.0
-        → (play (with_ext (trace_of fs) ext)).decl (state (trace_of fs)).count ≡ (decl_of fs.script ext).decl
-        → (model.admit (play (with_ext (trace_of fs) ext)) (state (trace_of fs))).private (fs.first + rows) ((play (with_ext (trace_of fs) ext)).node (fs.first + rows)) p
-        ≡ (state (trace_of fs)).global ext.node.0 p + weight (decl_of fs.script ext).decl p
-    new_private p rows last node decl =
+    present_is : (v : ℕ) → (v ≡ (play (with_ext (trace_of fs) ext)).node (state (trace_of fs)).count) ⊎ (v ≢ (play (with_ext (trace_of fs) ext)).node (state (trace_of fs)).count)
+        → (model.admit (play (with_ext (trace_of fs) ext)) (state (trace_of fs))).present v ≡ (state (trace_of fs)).present v
+    present_is v (inl e) =
         let P : Play = play (with_ext (trace_of fs) ext) in
         let core : model.Core = state (trace_of fs) in
-        ap (λ (j : ℕ). (model.admit P core).private j (P.node j) p) last
-        ∙ (ap (λ (f : At ℕ). f (P.node core.count) p) (put-here {A = At ℕ} core.private core.count core.count (λ v q. core.global v q + weight_at P core.count v q) refl)
-        ∙ (ap (λ (w : ℕ). core.global (P.node core.count) p + w) (weight_at-is P core.count (P.node core.count) p refl)
-        ∙ (ap (λ (v : ℕ). core.global v p + weight (P.decl core.count) p) node
-        ∙ ap (λ (d : Decl). core.global ext.node.0 p + weight d p) decl)))
-
-    old_comp : (i : ℕ) → fs.first + i < (state (trace_of fs)).count
-        → held_of fs.script (fs.exts ++ ext ∷ []) (model.admit (play (with_ext (trace_of fs) ext)) (state (trace_of fs))) (fs.first + i)
-        ≡ held_of fs.script fs.exts (state (trace_of fs)) (fs.first + i)
-    old_comp i lt =
-        let all : (state (trace_of fs)).count ≡ length fs.exts = kept.holds.admitted in
+        put-here {A = Table} core.present (P.node core.count) v (P.change core.count (core.present (P.node core.count))) e
+        ∙ (caused-same fs.script kept.built.unchanging (ext_at (fs.exts ++ ext ∷ []) core.count).cause (core.present (P.node core.count))
+        ∙ ap core.present (sym e))
+    present_is v (inr ne) =
         let P : Play = play (with_ext (trace_of fs) ext) in
         let core : model.Core = state (trace_of fs) in
-        ap (λ (d : Computation). let h : Held = record { decl = decl_number fs.script (ext_at (fs.exts ++ ext ∷ []) (fs.first + i)); comp = d; waiting_handlers = handlers_of (first_table fs.script) d.waiting } in h)
-        (put-else {A = Computation} core.comp core.count (fs.first + i) _ (λ e. omega arith))
-        ∙ ap (λ (x : Ext). let h : Held = record { decl = decl_number fs.script x; comp = core.comp (fs.first + i); waiting_handlers = handlers_of (first_table fs.script) (core.comp (fs.first + i)).waiting } in h) (old_ext fs.exts ext (fs.first + i) (omega arith))
+        put-else {A = Table} core.present (P.node core.count) v (P.change core.count (core.present (P.node core.count))) ne
 
-    new_comp : (rows : ℕ) → fs.first + rows ≡ (state (trace_of fs)).count → ext_at (fs.exts ++ ext ∷ []) (state (trace_of fs)).count ≡ ext
-        → Invariant (play (trace_of fs)) (state (trace_of fs))
-        → held_of fs.script (fs.exts ++ ext ∷ []) (model.admit (play (with_ext (trace_of fs) ext)) (state (trace_of fs))) (fs.first + rows) ≡ started fs.script ext
-    new_comp rows last new_at i =
-        ap (λ (j : ℕ). held_of fs.script (fs.exts ++ ext ∷ []) (model.admit (play (with_ext (trace_of fs) ext)) (state (trace_of fs))) j) last
-        ∙ just_begun fs ext kept new_at i none_waits
+    same_turn : {low high from to : ℕ} → from ≡ low → to ≡ high → (let i : Interval = record { from = from; to = to } in i) ≡ record { from = low; to = high }
+    same_turn {low = low} {high = high} {from = from} {to = to} e f = ap (λ (x : ℕ). let i : Interval = record { from = x; to = to } in i) e ∙ ap (λ (y : ℕ). let i : Interval = record { from = low; to = y } in i) f
 
-    names_at : (j : ℕ) → fs.first ≤ j → j < suc (state (trace_of fs)).count → ext_at (fs.exts ++ ext ∷ []) (state (trace_of fs)).count ≡ ext
-        → Invariant (play (trace_of fs)) (state (trace_of fs)) → (j ≡ (state (trace_of fs)).count) ⊎ (j ≢ (state (trace_of fs)).count)
-        → AreNamed (first_table fs.script) ((model.admit (play (with_ext (trace_of fs) ext)) (state (trace_of fs))).comp j).waiting
-    names_at j le lt new_at i (inl e) =
-        let after : model.Core = model.admit (play (with_ext (trace_of fs) ext)) (state (trace_of fs)) in
-        let none : (after.comp j).waiting ≡ [] =
-        ap (λ (n : ℕ). (after.comp n).waiting) e
-        ∙ (ap (λ (h : Held). h.comp.waiting) (just_begun fs ext kept new_at i none_waits) ∙ none_waits) in
-        rw none (λ n d below. absurd (omega (arith, below)))
-    names_at j le lt new_at i (inr ne) =
-        let all : (state (trace_of fs)).count ≡ length fs.exts = kept.holds.admitted in
-        subst (λ (d : Computation). AreNamed (first_table fs.script) d.waiting) (sym (put-else {A = Computation} (state (trace_of fs)).comp (state (trace_of fs)).count j _ ne))
-        (kept.holds.named j le (omega arith))
+    old_runs : (i : ℕ) (x : Running) → fs.first + i < length fs.exts → Runs fs.script fs.tables fs.exts (state (trace_of fs)) (fs.first + i) x
+        → Runs fs.script fs.tables (fs.exts ++ ext ∷ []) (model.admit (play (with_ext (trace_of fs) ext)) (state (trace_of fs))) (fs.first + i) x
+    old_runs i x lt old =
+        let P : Play = play (with_ext (trace_of fs) ext) in
+        let core : model.Core = state (trace_of fs) in
+        let all : core.count ≡ length fs.exts = kept.holds.admitted in
+        let other : fs.first + i ≢ core.count = (λ e. omega (arith, e, lt, all)) in
+        runs-on fs.script fs.tables fs.exts (fs.exts ++ ext ∷ []) core (model.admit P core) (fs.first + i) x (omega (arith, lt, all))
+        (old_ext fs.exts ext (fs.first + i) lt)
+        (λ v p. same_turn (ap (λ (f : At ℕ). f v p) (put-else {A = At ℕ} core.from core.count (fs.first + i) _ other)) (ap (λ (f : At ℕ). f v p) (put-else {A = At ℕ} core.private core.count (fs.first + i) _ other)))
+        (put-else {A = Computation} core.comp core.count (fs.first + i) _ other) (put-else {A = Table} core.table core.count (fs.first + i) _ other)
+        (put-else {A = Bool} core.ended core.count (fs.first + i) false other) old
 
     known_at : (j : ℕ) → j < suc (length fs.exts) → (j ≡ length fs.exts) ⊎ (j ≢ length fs.exts) → IsExtOf fs.script (ext_at (fs.exts ++ ext ∷ []) j)
-    known_at j lt (inl e) = subst (λ (m : ℕ). IsExtOf fs.script (ext_at (fs.exts ++ ext ∷ []) m)) (sym e) (subst (λ (x : Ext). IsExtOf fs.script x) (sym (new_ext fs.exts ext)) known)
-    known_at j lt (inr ne) = subst (λ (x : Ext). IsExtOf fs.script x) (sym (old_ext fs.exts ext j (omega arith))) (kept.known j (omega arith))
+    known_at j lt (inl e) = rw (e, new_ext fs.exts ext) admits.known
+    known_at j lt (inr ne) = rw (old_ext fs.exts ext j (omega (arith, lt, ne))) (kept.known j (omega (arith, lt, ne)))
+
+-- how many haven't ended
+pub unended-fits : (fs : Fields) → Kept fs → fs.unended ≤ 100000
+unended-fits fs kept =
+    let is : fs.unended ≡ unended (state (trace_of fs)) = kept.holds.unended in
+    let most = unended-most (state (trace_of fs)) in
+    let few = count-few (trace_of fs) kept.is_run in
+    omega (arith, is, most, few)
 
 -- an admission takes no box out, and stops nothing
 pub still-admitted : (t : Trace) (ext : Ext) → IsRun t → IsStill (state t) (admitted t ext)

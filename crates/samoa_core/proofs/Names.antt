@@ -71,9 +71,6 @@ named-kind table setup ports Views state moment = tt
 lt_or_le : (a b : ℕ) → (a < b) ⊎ (b ≤ a)
 lt_or_le a b = grind arith
 
-as_many_events : (script : Script) → length (first_table script) ≡ length script.events
-as_many_events script = length-map script.events (λ (e : EventDef). e.handlers)
-
 -- a microprotocol of the script, or none
 micro_known : (script : Script) (p : ℕ) → IsInRange script → (port : ℕ) → (port_at (setup_of script 0 p) port).0 < length script.events
 micro_known script p in_range port = at (lt_or_le p (length script.micros)) (lt_or_le port (length (micro_at script p).ports))
@@ -98,12 +95,12 @@ micro_known script p in_range port = at (lt_or_le p (length script.micros)) (lt_
         absurd (omega (arith, within, empty))
     at (inr none) (inr le) = past le
 
--- the outcome of a step of a microprotocol of a script in range
-pub named_step : (script : Script) (node p : ℕ) (state : State) (moment : Moment) → IsInRange script
-    → IsNamed (first_table script) (kind_step (micro_at script p).kind (setup_of script node p) state moment).1
-named_step script node p state moment in_range =
-    named-kind (first_table script) (setup_of script node p)
-    (λ port. let known : (port_at (setup_of script node p) port).0 < length script.events = micro_known script p in_range port in omega (arith, known, as_many_events script))
+-- the outcome of a step of a microprotocol of a script in range, by a table of the script's events
+pub named-step : (script : Script) (table : Table) (node p : ℕ) (state : State) (moment : Moment) → IsInRange script → length table ≡ length script.events
+    → IsNamed table (kind_step (micro_at script p).kind (setup_of script node p) state moment).1
+named-step script table node p state moment in_range as_many =
+    named-kind table (setup_of script node p)
+    (λ port. let known : (port_at (setup_of script node p) port).0 < length script.events = micro_known script p in_range port in omega (arith, known, as_many))
     (micro_at script p).kind state moment
 
 -- the handlers of the script's events are at microprotocols that a bound can count

@@ -12,7 +12,7 @@ use Rattle.samoa_invariant.specs.State.{raise}
 use Rattle.samoa_invariant.proofs.Scripted.{get_is}
 use Rattle.samoa_invariant.proofs.Slots.{put_at-else, put_at-here, slot_or_not}
 use Rattle.samoa_core.specs.Forms.{raised_if, raises, risen}
-use Rattle.samoa_core.specs.Slots.{Grid}
+use Rattle.samoa_core.specs.Grids.{Grid}
 use Rattle.samoa_core.proofs.Grids.{grid-put, grid-same}
 
 -- what a bound allows some calls of is named by it

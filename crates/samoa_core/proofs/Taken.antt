@@ -7,8 +7,9 @@ use Rattle.samoa_invariant.specs.Slots.{At, put_at}
 use Rattle.samoa_invariant.proofs.Scripted.{get_is}
 use Rattle.samoa_invariant.proofs.Slots.{put_at-else, put_at-here}
 use Rattle.samoa_invariant.proofs.Versions.{same_or_not}
-use Rattle.samoa_core.specs.Admission.{raised, taken_versions, version_after}
-use Rattle.samoa_core.specs.Slots.{Grid}
+use Rattle.samoa_core.specs.Admission.{raised, turns_taken, version_after}
+use Rattle.samoa_core.specs.Grids.{Grid}
+use Rattle.samoa_core.specs.declared.running.Interval.{Interval}
 use Rattle.samoa_core.proofs.Grids.{get_or-other, grid-put, length-set, slice_get-left, slice_get-right}
 
 -- the versions, risen at the first n microprotocols of a node
@@ -41,26 +42,26 @@ risen-other f decl v (suc n) i p ne =
     put_at-else {A = ℕ} (risen f decl v n) v n i p (risen f decl v n v n + weight decl n) (inl ne) ∙ risen-other f decl v n i p ne
 
 -- what is read of the versions so far
-here : (rows columns v p : ℕ) (cells : List ℕ) (f : At ℕ) → Grid rows columns cells f → v < rows → p < columns → get_or cells (v * columns + p) 0 ≡ f v p
-here rows columns v p cells f grid lt below = get_is {A = ℕ} cells (v * columns + p) (f v p) 0 (grid.value v p lt below)
+here : (rows columns v p : ℕ) (items : List ℕ) (f : At ℕ) → Grid rows columns items f → v < rows → p < columns → get_or items (v * columns + p) 0 ≡ f v p
+here rows columns v p items f grid lt below = get_is {A = ℕ} items (v * columns + p) (f v p) 0 (grid.value v p lt below)
 
-grid-risen : (rows columns v n : ℕ) (cells : List ℕ) (f : At ℕ) (decl : Decl) → v < rows → n ≤ columns → Grid rows columns cells f
-    → Grid rows columns (raised decl columns v cells n) (risen f decl v n)
+grid-risen : (rows columns v n : ℕ) (items : List ℕ) (f : At ℕ) (decl : Decl) → v < rows → n ≤ columns → Grid rows columns items f
+    → Grid rows columns (raised decl columns v items n) (risen f decl v n)
 unfolding risen
-grid-risen rows columns v zero cells f decl lt le grid = grid
-grid-risen rows columns v (suc n) cells f decl lt le grid =
-    let before : Grid rows columns (raised decl columns v cells n) (risen f decl v n) = grid-risen rows columns v n cells f decl lt (omega arith) grid in
-    let is : version_after decl columns v (raised decl columns v cells n) n ≡ risen f decl v n v n + weight decl n =
-    ap (λ (x : ℕ). x + weight decl n) (here rows columns v n (raised decl columns v cells n) (risen f decl v n) before lt (omega arith)) in
-    subst (λ (x : ℕ). Grid rows columns (set (raised decl columns v cells n) (v * columns + n) x) (put_at (risen f decl v n) v n (risen f decl v n v n + weight decl n))) (sym is)
-    (grid-put rows columns (raised decl columns v cells n) (risen f decl v n) v n (risen f decl v n v n + weight decl n) lt (omega arith) before)
+grid-risen rows columns v zero items f decl lt le grid = grid
+grid-risen rows columns v (suc n) items f decl lt le grid =
+    let before : Grid rows columns (raised decl columns v items n) (risen f decl v n) = grid-risen rows columns v n items f decl lt (omega arith) grid in
+    let is : version_after decl columns v (raised decl columns v items n) n ≡ risen f decl v n v n + weight decl n =
+    ap (λ (x : ℕ). x + weight decl n) (here rows columns v n (raised decl columns v items n) (risen f decl v n) before lt (omega arith)) in
+    subst (λ (x : ℕ). Grid rows columns (set (raised decl columns v items n) (v * columns + n) x) (put_at (risen f decl v n) v n (risen f decl v n v n + weight decl n))) (sym is)
+    (grid-put rows columns (raised decl columns v items n) (risen f decl v n) v n (risen f decl v n v n + weight decl n) lt (omega arith) before)
 
 -- the versions after all of them rose
-pub grid-raised : (rows columns v : ℕ) (cells : List ℕ) (f g : At ℕ) (decl : Decl) → v < rows → Grid rows columns cells f
+pub grid-raised : (rows columns v : ℕ) (items : List ℕ) (f g : At ℕ) (decl : Decl) → v < rows → Grid rows columns items f
     → ((p : ℕ) → g v p ≡ f v p + weight decl p) → ((i p : ℕ) → i ≢ v → g i p ≡ f i p)
-    → Grid rows columns (raised decl columns v cells columns) g
-grid-raised rows columns v cells f g decl lt grid mine others =
-    let all : Grid rows columns (raised decl columns v cells columns) (risen f decl v columns) = grid-risen rows columns v columns cells f decl lt (omega arith) grid in
+    → Grid rows columns (raised decl columns v items columns) g
+grid-raised rows columns v items f g decl lt grid mine others =
+    let all : Grid rows columns (raised decl columns v items columns) (risen f decl v columns) = grid-risen rows columns v columns items f decl lt (omega arith) grid in
     record { size = all.size; value = λ i p ri cp. all.value i p ri cp ∙ ap (λ (x : ℕ). Some x) (is i p cp (same_or_not i v)) }
   where
     is : (i p : ℕ) → p < columns → (i ≡ v) ⊎ (i ≢ v) → risen f decl v columns i p ≡ g i p
@@ -68,46 +69,54 @@ grid-raised rows columns v cells f g decl lt grid mine others =
         ap (λ (n : ℕ). risen f decl v columns n p) e ∙ (risen-below f decl v columns p cp ∙ (sym (mine p) ∙ ap (λ (n : ℕ). g n p) (sym e)))
     is i p cp (inr ne) = risen-other f decl v columns i p ne ∙ sym (others i p ne)
 
-pub length-taken : (decl : Decl) (columns v : ℕ) (cells : List ℕ) (n : ℕ) → length (taken_versions decl columns v cells n) ≡ n
-length-taken decl columns v cells zero = refl
-length-taken decl columns v cells (suc n) =
-    let rest : length (taken_versions decl columns v cells n) ≡ n = length-taken decl columns v cells n in
-    let more = length-append (taken_versions decl columns v cells n) (version_after decl columns v (raised decl columns v cells n) n ∷ []) in
+-- the turn that an admission takes at a microprotocol
+last_turn : Decl → ℕ → ℕ → List ℕ → ℕ → Interval
+last_turn decl columns v items n = record {
+  from = get_or (raised decl columns v items n) (v * columns + n) 0;
+  to = version_after decl columns v (raised decl columns v items n) n;
+}
+
+pub length-taken : (decl : Decl) (columns v : ℕ) (items : List ℕ) (n : ℕ) → length (turns_taken decl columns v items n) ≡ n
+unfolding last_turn
+length-taken decl columns v items zero = refl
+length-taken decl columns v items (suc n) =
+    let rest : length (turns_taken decl columns v items n) ≡ n = length-taken decl columns v items n in
+    let more = length-append (turns_taken decl columns v items n) (last_turn decl columns v items n ∷ []) in
     omega (arith, rest, more)
 
-pub taken-at : (rows columns v n p : ℕ) (cells : List ℕ) (f : At ℕ) (decl : Decl) → v < rows → n ≤ columns → Grid rows columns cells f → p < n
-    → slice_get (taken_versions decl columns v cells n) p ≡ Some (f v p + weight decl p)
-taken-at rows columns v zero p cells f decl lt le grid below = absurd (omega arith)
-taken-at rows columns v (suc n) p cells f decl lt le grid below = go (same_or_not p n) (λ less. taken-at rows columns v n p cells f decl lt (omega arith) grid less)
+-- what a version and its weight make
+risen_turn : ℕ → ℕ → Interval
+risen_turn low weight = record { from = low; to = low + weight }
+
+pub taken-at : (rows columns v n p : ℕ) (items : List ℕ) (f : At ℕ) (decl : Decl) → v < rows → n ≤ columns → Grid rows columns items f → p < n
+    → slice_get (turns_taken decl columns v items n) p ≡ Some (record { from = f v p; to = f v p + weight decl p })
+unfolding last_turn risen_turn
+taken-at rows columns v zero p items f decl lt le grid below = absurd (omega arith)
+taken-at rows columns v (suc n) p items f decl lt le grid below = go (same_or_not p n) (λ less. taken-at rows columns v n p items f decl lt (omega arith) grid less)
   where
-    row : List ℕ
-    row = taken_versions decl columns v cells n
+    long : length (turns_taken decl columns v items n) ≡ n
+    long = length-taken decl columns v items n
 
-    last : ℕ
-    last = version_after decl columns v (raised decl columns v cells n) n
-
-    go : (p ≡ n) ⊎ (p ≢ n) → (p < n → slice_get (taken_versions decl columns v cells n) p ≡ Some (f v p + weight decl p))
-        → slice_get (taken_versions decl columns v cells n ++ version_after decl columns v (raised decl columns v cells n) n ∷ []) p ≡ Some (f v p + weight decl p)
+    go : (p ≡ n) ⊎ (p ≢ n) → (p < n → slice_get (turns_taken decl columns v items n) p ≡ Some (risen_turn (f v p) (weight decl p)))
+        → slice_get (turns_taken decl columns v items n ++ last_turn decl columns v items n ∷ []) p ≡ Some (risen_turn (f v p) (weight decl p))
     go (inl e) before =
-        let long : length (taken_versions decl columns v cells n) ≡ n = length-taken decl columns v cells n in
-        let at : p ≡ length (taken_versions decl columns v cells n) + 0 = omega arith in
-        let grid_n : Grid rows columns (raised decl columns v cells n) (risen f decl v n) = grid-risen rows columns v n cells f decl lt (omega arith) grid in
-        ap (λ (q : ℕ). slice_get (taken_versions decl columns v cells n ++ version_after decl columns v (raised decl columns v cells n) n ∷ []) q) at
-        ∙ (slice_get-right {A = ℕ} (taken_versions decl columns v cells n) (version_after decl columns v (raised decl columns v cells n) n ∷ []) 0
-        ∙ (ap (λ (x : ℕ). Some (x + weight decl n)) (here rows columns v n (raised decl columns v cells n) (risen f decl v n) grid_n lt (omega arith) ∙ risen-above f decl v n n (omega arith))
-        ∙ ap (λ (q : ℕ). Some (f v q + weight decl q)) (sym e)))
+        let at : p ≡ length (turns_taken decl columns v items n) + 0 = omega (arith, e, long) in
+        let grid_n : Grid rows columns (raised decl columns v items n) (risen f decl v n) = grid-risen rows columns v n items f decl lt (omega arith) grid in
+        ap (λ (q : ℕ). slice_get (turns_taken decl columns v items n ++ last_turn decl columns v items n ∷ []) q) at
+        ∙ (slice_get-right {A = Interval} (turns_taken decl columns v items n) (last_turn decl columns v items n ∷ []) 0
+        ∙ (ap (λ (x : ℕ). Some (risen_turn x (weight decl n))) (here rows columns v n (raised decl columns v items n) (risen f decl v n) grid_n lt (omega arith) ∙ risen-above f decl v n n (omega arith))
+        ∙ ap (λ (q : ℕ). Some (risen_turn (f v q) (weight decl q))) (sym e)))
     go (inr ne) before =
-        let long : length (taken_versions decl columns v cells n) ≡ n = length-taken decl columns v cells n in
-        slice_get-left {A = ℕ} (taken_versions decl columns v cells n) (version_after decl columns v (raised decl columns v cells n) n ∷ []) p (omega arith) ∙ before (omega arith)
+        slice_get-left {A = Interval} (turns_taken decl columns v items n) (last_turn decl columns v items n ∷ []) p (omega (arith, long, ne)) ∙ before (omega arith)
 
 -- a version that hasn't risen yet
-pub length-raised : (decl : Decl) (columns v : ℕ) (cells : List ℕ) (n : ℕ) → length (raised decl columns v cells n) ≡ length cells
-length-raised decl columns v cells zero = refl
-length-raised decl columns v cells (suc n) =
-    length-set (raised decl columns v cells n) (v * columns + n) (version_after decl columns v (raised decl columns v cells n) n) ∙ length-raised decl columns v cells n
+pub length-raised : (decl : Decl) (columns v : ℕ) (items : List ℕ) (n : ℕ) → length (raised decl columns v items n) ≡ length items
+length-raised decl columns v items zero = refl
+length-raised decl columns v items (suc n) =
+    length-set (raised decl columns v items n) (v * columns + n) (version_after decl columns v (raised decl columns v items n) n) ∙ length-raised decl columns v items n
 
-pub raised-else : (decl : Decl) (columns v : ℕ) (cells : List ℕ) (n p : ℕ) → n ≤ p → get_or (raised decl columns v cells n) (v * columns + p) 0 ≡ get_or cells (v * columns + p) 0
-raised-else decl columns v cells zero p le = refl
-raised-else decl columns v cells (suc n) p le =
-    get_or-other {A = ℕ} (raised decl columns v cells n) (v * columns + n) (v * columns + p) (version_after decl columns v (raised decl columns v cells n) n) 0 (λ e. omega arith)
-    ∙ raised-else decl columns v cells n p (omega arith)
+pub raised-else : (decl : Decl) (columns v : ℕ) (items : List ℕ) (n p : ℕ) → n ≤ p → get_or (raised decl columns v items n) (v * columns + p) 0 ≡ get_or items (v * columns + p) 0
+raised-else decl columns v items zero p le = refl
+raised-else decl columns v items (suc n) p le =
+    get_or-other {A = ℕ} (raised decl columns v items n) (v * columns + n) (v * columns + p) (version_after decl columns v (raised decl columns v items n) n) 0 (λ e. omega arith)
+    ∙ raised-else decl columns v items n p (omega arith)

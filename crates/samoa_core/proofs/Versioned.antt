@@ -31,18 +31,6 @@ pub local-is : (fs : Fields) (v p : ℕ) → Kept fs → v < fs.script.nodes →
 local-is fs v p kept lt below =
     get_is {A = ℕ} fs.local (v * length fs.script.micros + p) ((state (trace_of fs)).local v p) 0 (kept.holds.local.value v p lt below)
 
--- a private version is a sum that includes the weight
-pub weight-private : (fs : Fields) (k p : ℕ) → Kept fs → k < length fs.exts
-    → weight ((play (trace_of fs)).decl k) p ≤ (state (trace_of fs)).private k ((play (trace_of fs)).node k) p
-weight-private fs k p kept lt =
-    let t : Trace = trace_of fs in
-    let P : Play = play t in
-    let i : Invariant P (state t) = invariant t kept.is_run in
-    let all : (state t).count ≡ length fs.exts = kept.holds.admitted in
-    let private : (state t).private k (P.node k) p ≡ version P (suc k) (P.node k) p = i.booked.private k (P.node k) p (omega (arith, lt, all)) in
-    let sum : version P (suc k) (P.node k) p ≡ version P k (P.node k) p + weight (P.decl k) p = version-own P k p in
-    omega (arith, private, sum)
-
 -- where a box is out, a version that was given is not done with
 pub out-below : (fs : Fields) (k v p : ℕ) → Kept fs → v < fs.script.nodes → p < length fs.script.micros → (state (trace_of fs)).out v p ≡ Some k
     → get_or fs.local (v * length fs.script.micros + p) 0 < get_or fs.global (v * length fs.script.micros + p) 0
@@ -58,8 +46,3 @@ out-below fs k v p kept lt below out =
     let here = local-is fs v p kept lt below in
     let there = global-is fs v p kept lt below in
     omega (arith, local, order, global, here, there)
-
--- whose turn it is
-pub turn-at : (versions : Counters) (slot private weight local : ℕ) → lv_at versions slot ≡ local → private ≤ local + weight → local < private
-    → HasTurn versions slot private weight
-turn-at versions slot private weight local e from below = record { from = omega (arith, e, from); below = omega (arith, e, below) }

@@ -1,7 +1,9 @@
 -- What an admission does.
-use Rattle.std.specs.Prelude.{ℕ, zero, suc, ◌+◌, ◌*◌, List, [], ◌∷◌, ◌++◌, length, get_or, set}
+use Rattle.std.specs.Prelude.{ℕ, zero, suc, ◌+◌, ◌-◌, ◌*◌, List, [], ◌∷◌, ◌++◌, length, get_or, set}
 use Rattle.samoa_model.specs.Allowed.{weight}
-use Rattle.samoa_model.specs.Scripts.{decl_of, first_table, root_of}
+use Rattle.samoa_model.specs.Scripts.{Table, decl_of, root_of}
+use Rattle.samoa_model.specs.declared.ids.NodeId.{NodeId}
+use Rattle.samoa_bind.specs.Bound.{epochs_of, table_at}
 use Rattle.samoa_model.specs.declared.record.Ext.{Ext}
 use Rattle.samoa_model.specs.declared.record.Step.{Step}
 use Rattle.samoa_model.specs.declared.script.Decl.{Decl}
@@ -13,25 +15,44 @@ use Rattle.samoa_serial.specs.World.{attempts_of}
 use Rattle.samoa_invariant.specs.State.{named}
 use Rattle.samoa_invariant.specs.Runs.{Trace, with_ext, with_step}
 use Rattle.samoa_core.specs.Known.{decl_number}
+use Rattle.samoa_core.specs.declared.running.Interval.{Interval}
 
 -- one more external event, admitted in the same step
 abbrev pub admitted : Trace → Ext → Trace
 admitted t ext = with_step (with_ext t ext) (Step.Admit (length t.exts + 1))
 
+-- how many may be admitted, and how many versions of a slot these take at most
+abbrev pub most_admitted : ℕ
+most_admitted = 100000
+
+abbrev pub most_versions : ℕ
+most_versions = 25600000
+
+-- the present table of a node, which is that of its last epoch
+abbrev pub last_table : List (List Table) → NodeId → Table
+last_table tables node = table_at tables node (length (epochs_of tables node) - 1)
+
 -- a computation that has just begun
-abbrev pub started : Script → Ext → Held
-started script ext =
+abbrev pub started : Script → List (List Table) → Ext → Held
+started script tables ext =
     let decl = decl_of script ext in
     record {
       decl = decl_number script ext;
-      comp = start (attempts_of decl.decl (first_table script)) decl.budget (root_of script ext.cause) ext.args;
+      comp = start (attempts_of decl.decl (last_table tables ext.node)) decl.budget (root_of script ext.cause) ext.args;
       waiting_handlers = [];
     }
 
--- how many steps are kept room for: of each handler step its Enter and its Leave, the releases and the End, and an Enter that
--- is abandoned
+-- of each handler step that a unit may come to, its Enter and its Leave
+abbrev pub steps_a_unit : ℕ
+steps_a_unit = 10
+
+-- the Enters and Leaves of the root event's handler steps, the End, and an Enter that is abandoned
+abbrev pub beside_units : ℕ
+beside_units = 12
+
+-- how many steps are kept room for: these and the releases
 abbrev pub steps_of : DeclDef → ℕ
-steps_of decl = 10 * decl.budget + length (named decl.decl) + 12
+steps_of decl = steps_a_unit * decl.budget + length (named decl.decl) + beside_units
 
 -- the version of a microprotocol after one more admission
 abbrev pub version_after : Decl → ℕ → ℕ → List ℕ → ℕ → ℕ
@@ -44,8 +65,9 @@ raised decl columns node versions (suc n) =
     let before = raised decl columns node versions n in
     set before (node * columns + n) (version_after decl columns node before n)
 
--- the private versions at the first n microprotocols
-abbrev pub taken_versions : Decl → ℕ → ℕ → List ℕ → ℕ → List ℕ
-taken_versions decl columns node versions zero = []
-taken_versions decl columns node versions (suc n) =
-    taken_versions decl columns node versions n ++ version_after decl columns node (raised decl columns node versions n) n ∷ []
+-- the turns at the first n microprotocols: from the version before to that after
+abbrev pub turns_taken : Decl → ℕ → ℕ → List ℕ → ℕ → List Interval
+turns_taken decl columns node versions zero = []
+turns_taken decl columns node versions (suc n) =
+    let before = raised decl columns node versions n in
+    turns_taken decl columns node versions n ++ record { from = get_or before (node * columns + n) 0; to = version_after decl columns node before n } ∷ []

@@ -16,13 +16,12 @@ fields_of a = record {
   exts = a.exts.items;
   clears = a.clears.items;
   clears_room = vec_capacity a.clears;
-  journal = a.journal.items;
-  journal_room = vec_capacity a.journal;
-  promised = a.promised;
+  journal = a.journal.steps;
+  promised = a.journal.promised;
   first = a.first;
-  comps = a.comps.items;
-  private = a.private.items;
-  ended = a.ended.items;
+  running = a.running.items;
+  unended = a.unended;
+  away = a.away;
   stopped = a.stopped;
 }
 

@@ -1,13 +1,9 @@
 -- What a declaration's form says of a release, and of the local version where a call was completed.
 use Rattle.std.specs.Prelude.{◌≡◌, ℕ, ◌+◌, ◌*◌, Bool, true, false, ◌&&◌, List, [], map, get_or, set, Option, Some, None}
 use Rattle.samoa_model.specs.Allowed.{declares}
-use Rattle.samoa_model.specs.Scripts.{Table}
-use Rattle.samoa_model.specs.declared.ids.HandlerId.{HandlerId}
 use Rattle.samoa_model.specs.declared.ids.MicroId.{MicroId}
 use Rattle.samoa_model.specs.declared.script.Decl.{Decl}
-use Rattle.samoa_calls.specs.Held.{handlers_of}
 use Rattle.samoa_invariant.specs.Play.{is_bound}
-use Rattle.samoa_serial.specs.Calls.{Computation}
 use Rattle.samoa_vca_route.specs.Routes.{IsGraph}
 
 -- a declaration by which the tests of its form may be made: a route is a graph of few vertices
@@ -21,12 +17,6 @@ abbrev pub waits_for_rest : Decl → Bool
 waits_for_rest (Decl.Set micros) = true
 waits_for_rest (Decl.Bound bounds) = true
 waits_for_rest (Decl.Route vertices roots edges) = false
-
--- these are the handlers of a computation's active calls and of its waiting ones, of which there are none where none is active
-pub record IsStanding (table : Table) (comp : Computation) (active waiting : List HandlerId) : Type 0 where
-  pub active_handlers : active ≡ map (λ a. a.call.handler) comp.active
-  pub waiting_handlers : waiting ≡ handlers_of table comp.waiting
-  pub none_waits : comp.active ≡ [] → comp.waiting ≡ []
 
 -- whether a call that is completed at a microprotocol raises its local version
 abbrev pub raises : Decl → ℕ → Bool

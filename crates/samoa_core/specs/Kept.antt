@@ -1,22 +1,25 @@
 -- What the fields of a core hold.
-use Rattle.std.specs.Prelude.{◌≡◌, ◌≤◌, ◌<◌, ◌+◌, ◌-◌, ℕ, Bool, true, List, length}
+use Rattle.std.specs.Prelude.{◌≡◌, ◌≤◌, ◌<◌, ◌+◌, ◌-◌, ℕ, Bool, true, List, Some, length, slice_get}
+use Rattle.samoa_model.specs.declared.ids.NodeId.{NodeId}
 use Rattle.samoa_model.specs.declared.record.Ext.{Ext}
 use Rattle.samoa_model.specs.declared.record.Step.{Step}
 use Rattle.samoa_model.specs.declared.script.Script.{Script}
-use Rattle.samoa_model.specs.Scripts.{Table, first_table}
+use Rattle.samoa_model.specs.Scripts.{Table}
 use Rattle.samoa_model.specs.Range.{IsBuilt, IsExtOf, IsInRange}
-use Rattle.samoa_bind.specs.Bound.{first_tables}
-use Rattle.samoa_calls.specs.Held.{Held, handlers_of}
-use Rattle.samoa_calls.specs.Handed.{AreNamed}
+use Rattle.samoa_bind.specs.Bound.{epochs_of, table_at}
+use Rattle.samoa_calls.specs.Handed.{AreNamed, IsCounted}
 use Rattle.samoa_invariant.specs.State as model
+use Rattle.samoa_invariant.specs.State.{sum_to, to_end}
 use Rattle.samoa_invariant.specs.Runs.{IsRun, Trace, ext_at, play, state}
-use Rattle.samoa_core.specs.Known.{decl_number}
 use Rattle.samoa_core.specs.Since.{cleared_comps}
-use Rattle.samoa_core.specs.Places.{slot_in}
+use Rattle.samoa_core.specs.Places.{away_in, slot_in}
 use Rattle.samoa_core.specs.Room.{to_come}
-use Rattle.samoa_core.specs.Slots.{Grid, Row, Slotted}
+use Rattle.samoa_core.specs.Grids.{Grid}
+use Rattle.samoa_core.specs.Slots.{Slotted}
+use Rattle.samoa_core.specs.Running.{IsRunning}
+use Rattle.samoa_core.specs.declared.running.Running.{Running}
 
--- the fields of a core. Those of computations are of the ones that were admitted since the last clear
+-- the fields of a core. Those that run were admitted since the last clear
 pub record Fields : Type 0 where
   pub script : Script
   pub cells : ℕ
@@ -29,47 +32,62 @@ pub record Fields : Type 0 where
   pub clears : List ℕ
   pub clears_room : ℕ
   pub journal : List Step
-  pub journal_room : ℕ
   pub promised : ℕ
   pub first : ℕ
-  pub comps : List Held
-  pub private : List ℕ
-  pub ended : List Bool
+  pub running : List Running
+  pub unended : ℕ
+  pub away : ℕ
   pub stopped : Bool
 
 abbrev pub trace_of : Fields → Trace
 trace_of fs = record { script = fs.script; cells = fs.cells; exts = fs.exts; clears = fs.clears; journal = fs.journal }
 
--- a computation with the number of its declaration
-abbrev pub held_of : Script → List Ext → model.Core → ℕ → Held
-held_of script exts core k = record { decl = decl_number script (ext_at exts k); comp = core.comp k; waiting_handlers = handlers_of (first_table script) (core.comp k).waiting }
+-- each node has tables for the script's events, the last of which is the present one
+pub record AreTables (script : Script) (tables : List (List Table)) : Type 0 where
+  pub size : length tables ≡ script.nodes
+  pub counted : (node : NodeId) (epoch : ℕ) → epoch < length (epochs_of tables node) → IsCounted (table_at tables node epoch)
+  pub events : (node : NodeId) (epoch : ℕ) → epoch < length (epochs_of tables node) → length (table_at tables node epoch) ≡ length script.events
+
+-- the table of computation k is that of its epoch, and names the events of its waiting calls
+pub record HasTable (tables : List (List Table)) (core : model.Core) (k : ℕ) (r : Running) : Type 0 where
+  pub epoch : r.epoch < length (epochs_of tables r.node)
+  pub table : table_at tables r.node r.epoch ≡ core.table k
+  pub named : AreNamed (core.table k) (core.comp k).waiting
+
+-- it is computation k
+pub record Runs (script : Script) (tables : List (List Table)) (exts : List Ext) (core : model.Core) (k : ℕ) (r : Running) : Type 0 where
+  pub is : IsRunning script exts core k r
+  pub table : HasTable tables core k r
+
+-- how many of the computations haven't ended
+abbrev pub unended : model.Core → ℕ
+unended core = sum_to (λ k. to_end (core.ended k)) core.count
 
 -- what the fields hold of a state of the model
 pub record Holds (fs : Fields) (core : model.Core) : Type 0 where
   pub admitted : core.count ≡ length fs.exts
   pub held : fs.held ≡ core.cells
   pub within : core.cells ≤ fs.cells
+  pub present : (node : NodeId) (epoch : ℕ) → node.0 < fs.script.nodes → epoch + 1 ≡ length (epochs_of fs.tables node) → table_at fs.tables node epoch ≡ core.present node.0
   pub global : Grid fs.script.nodes (length fs.script.micros) fs.global core.global
   pub local : Grid fs.script.nodes (length fs.script.micros) fs.local core.local
   pub slots : Grid fs.script.nodes (length fs.script.micros) fs.slots.boxes (slot_in fs.script core)
-  pub private : Grid (length fs.exts - fs.first) (length fs.script.micros) fs.private
-      (λ i p. core.private (fs.first + i) ((play (trace_of fs)).node (fs.first + i)) p)
-  pub comps : Row (length fs.exts - fs.first) fs.comps (λ i. held_of fs.script fs.exts core (fs.first + i))
-  pub ended : Row (length fs.exts - fs.first) fs.ended (λ i. core.ended (fs.first + i))
+  pub size : length fs.running ≡ length fs.exts - fs.first
+  pub running : (i : ℕ) (r : Running) → slice_get fs.running i ≡ Some r → Runs fs.script fs.tables fs.exts core (fs.first + i) r
   pub past : (k : ℕ) → k < fs.first → core.ended k ≡ true
-  pub named : (k : ℕ) → fs.first ≤ k → k < length fs.exts → AreNamed (first_table fs.script) (core.comp k).waiting
+  pub unended : fs.unended ≡ unended core
+  pub away : fs.away ≡ away_in fs.script core
   pub stopped : fs.stopped ≡ core.stopped
-  pub promised : to_come (play (trace_of fs)) core ≤ fs.promised
 
 pub record Kept (fs : Fields) : Type 0 where
   pub in_range : IsInRange fs.script
   pub built : IsBuilt fs.script
-  pub tables : fs.tables ≡ first_tables fs.script
+  pub tables : AreTables fs.script fs.tables
   pub micros : fs.slots.micros ≡ length fs.script.micros
   pub known : (k : ℕ) → k < length fs.exts → IsExtOf fs.script (ext_at fs.exts k)
   pub is_run : IsRun (trace_of fs)
   pub first : fs.first ≡ cleared_comps (trace_of fs)
   pub first_most : fs.first ≤ length fs.exts
   pub clears_room : 0 < fs.held → length fs.clears < fs.clears_room
-  pub room : length fs.journal + fs.promised ≤ fs.journal_room
+  pub promised : to_come (play (trace_of fs)) (state (trace_of fs)) ≤ fs.promised
   pub holds : Holds fs (state (trace_of fs))

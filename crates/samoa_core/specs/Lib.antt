@@ -3,9 +3,14 @@ pub mod Admission
 pub mod Since
 pub mod Places
 pub mod Turns
-pub mod Scans
+pub mod Later
 pub mod Room
 pub mod Slots
+pub mod Grids
+pub mod Noted
+pub mod Running
+pub mod Leaving
+pub mod Sound
 pub mod Forms
 pub mod Kept
 pub mod Fields

@@ -27,13 +27,12 @@ abbrev pub out_one : Option ℕ → ℕ
 out_one None = zero
 out_one (Some comp) = suc zero
 
--- how many boxes of a node are out, and of the first nodes
-abbrev pub out_at : Trace → ℕ → ℕ
-out_at t node = sum_to (λ p. out_one ((state t).out node p)) (length t.script.micros)
+-- how many boxes of a node are out, and how many of all
+abbrev pub out_at : Script → model.Core → ℕ → ℕ
+out_at script core node = sum_to (λ p. out_one (core.out node p)) (length script.micros)
 
-abbrev pub out_of : Trace → ℕ → ℕ
-out_of t nodes = sum_to (out_at t) nodes
+abbrev pub away_in : Script → model.Core → ℕ
+away_in script core = sum_to (out_at script core) script.nodes
 
--- how many boxes are out
 abbrev pub away : Trace → ℕ
-away t = out_of t t.script.nodes
+away t = away_in t.script (state t)

@@ -1,14 +1,9 @@
 -- The slots of a core: one for each microprotocol of each node, node by node.
-use Rattle.std.specs.Prelude.{◌≡◌, ℕ, zero, suc, ◌+◌, ◌*◌, ◌<◌, List, [], ◌++◌, map, length, Option, Some, slice_get}
+use Rattle.std.specs.Prelude.{ℕ, zero, suc, List, [], ◌++◌, map, Option, Some}
 use Rattle.samoa_model.specs.declared.setup.Setup.{Setup}
 use Rattle.samoa_model.specs.declared.script.MicroDef.{MicroDef}
 use Rattle.samoa_model.specs.declared.script.Script.{Script}
 use Rattle.samoa_serial.specs.Kinds.{Seen, set_up_as}
-
--- a list with one row after another holds the values of a function
-pub record Grid {A : Type 0} (rows columns : ℕ) (cells : List A) (f : ℕ → ℕ → A) : Type 0 where
-  pub size : length cells ≡ rows * columns
-  pub value : (i j : ℕ) → i < rows → j < columns → slice_get cells (i * columns + j) ≡ Some (f i j)
 
 -- what is in the slots: nothing where a microprotocol is out
 pub record Slotted : Type 0 where
@@ -36,8 +31,3 @@ row_of script node = map (set_up_at script node) script.micros
 abbrev pub rows_of : Script → ℕ → List (Option Seen)
 rows_of script zero = []
 rows_of script (suc nodes) = rows_of script nodes ++ row_of script nodes
-
--- a list holds the values of a function
-pub record Row {A : Type 0} (rows : ℕ) (cells : List A) (f : ℕ → A) : Type 0 where
-  pub size : length cells ≡ rows
-  pub value : (i : ℕ) → i < rows → slice_get cells i ≡ Some (f i)

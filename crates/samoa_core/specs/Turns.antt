@@ -1,14 +1,7 @@
 -- Handler steps that have begun.
-use Rattle.std.specs.Prelude.{◌≡◌, ℕ, ◌-◌, ◌<◌, Some, List, ◌∷◌, length}
+use Rattle.std.specs.Prelude.{◌≡◌, ℕ, ◌-◌, ◌<◌, Some}
 use Rattle.samoa_model.specs.declared.handler.Moment.{Moment}
 use Rattle.samoa_model.specs.declared.handler.Outcome.{Outcome}
-use Rattle.samoa_model.specs.declared.script.Script.{Script}
-use Rattle.samoa_model.specs.Scripts.{decl_at, first_table}
-use Rattle.samoa_calls.specs.Held.{Held, handlers_of}
-use Rattle.samoa_calls.specs.Handed.{AreNamed}
-use Rattle.samoa_serial.specs.declared.call.Active.{Active}
-use Rattle.samoa_serial.specs.World.{attempts_of}
-use Rattle.samoa_serial.specs.Calls.{take_outcome}
 use Rattle.samoa_serial.specs.declared.call.Call.{Call}
 use Rattle.samoa_serial.specs.Kinds.{Seen, after_step, outcome_of}
 use Rattle.samoa_serial.specs.Alone.{next_step}
@@ -47,15 +40,3 @@ pub record HasCome (t : Trace) (comp micro : ℕ) (held : Seen) (outcome : Outco
   pub is_at : call.handler.micro.0 ≡ micro
   pub box : held ≡ after_step (box_of t comp micro) moment
   pub gives : outcome ≡ outcome_of (box_of t comp micro) moment
-
--- a computation that takes an outcome: its declaration is of the script, it has an active call, and what waits is of the script
-pub record IsReady (script : Script) (h : Held) : Type 0 where
-  pub decl : h.decl < length script.decls
-  pub active : (a : Active) × (rest : List Active) × (h.comp.active ≡ a ∷ rest)
-  pub listed : h.waiting_handlers ≡ handlers_of (first_table script) h.comp.waiting
-  pub named : AreNamed (first_table script) h.comp.waiting
-
-abbrev pub taken : Script → Held → Outcome → Held
-taken script h outcome =
-    let comp = take_outcome (attempts_of (decl_at script h.decl).decl (first_table script)) h.comp outcome in
-    record { decl = h.decl; comp = comp; waiting_handlers = handlers_of (first_table script) comp.waiting }

@@ -1,18 +1,20 @@
 //! What a core answers of what has ended, and the clear.
-ghost use Rattle.std.specs.Prelude.{◌≡◌, ℕ, ◌<◌, ◌≤◌, ◌-◌, length, Some, None, true, nat_lt, min, slice_get, if◌then◌else◌};
+ghost use Rattle.std.specs.Prelude.{◌≡◌, ℕ, ◌<◌, ◌≤◌, ◌-◌, length, Some, None, true, nat_lt, slice_get, if◌then◌else◌};
 ghost use Rattle.samoa_model.specs.Scripts.{micro_at};
 ghost use Rattle.samoa_serial.specs.Kinds.{shown};
 ghost use Rattle.samoa_serial.specs.SerialRun.{serial};
-ghost use Rattle.samoa_calls.specs.Handed.{ending_of};
 ghost use Rattle.samoa_invariant.specs.State.{AllEnded};
 ghost use Rattle.samoa_invariant.specs.Runs.{Trace, served_at, state, with_clear};
-ghost use Rattle.samoa_core.specs.Scans.{IsStill};
+ghost use Rattle.samoa_core.specs.Later.{IsStill};
 ghost use Rattle.samoa_core.specs.Since.{cleared_comps};
 
 use crate::kernel::Core;
 use samoa_micro::Micro;
 use samoa_model::{Ending, Entry, Ext, MicroId, NodeId, Words};
 use std::mem::swap;
+
+/// How many steps are counted as still to come of a computation that has ended.
+const COUNTED_OF_ENDED: u64 = 3;
 
 impl<B: Micro> Core<B> {
     /// What began a computation.
@@ -32,16 +34,8 @@ impl<B: Micro> Core<B> {
         requires ended { (state self.now).ended (comp - 1) ≡ true }
         ensures { result ≡ slice_get (served_at self.now comp).world.entries at }
     {
-        let _admitted = self.admitted();
-        self.entry_of(comp, at)
-    }
-
-    fn entry_of(&self, comp: u32, at: usize) -> Option<Entry>
-        requires kept { cleared_comps self.now < comp }
-        requires admitted { comp ≤ length self.now.exts }
-        ensures { result ≡ slice_get ((state self.now).comp (comp - 1)).entries at }
-    {
-        self.comps[(comp - 1 - self.first) as usize].entry(at)
+        self.recall();
+        self.running(comp).calls.entry(at)
     }
 
     /// How a computation ended, since the last `clear`: as in the serial run, whether or not others have ended.
@@ -51,16 +45,8 @@ impl<B: Micro> Core<B> {
         requires ended { (state self.now).ended (comp - 1) ≡ true }
         ensures { result ≡ (served_at self.now comp).value }
     {
-        let _admitted = self.admitted();
-        self.ending_of(comp).unwrap()
-    }
-
-    fn ending_of(&self, comp: u32) -> Option<Ending>
-        requires kept { cleared_comps self.now < comp }
-        requires admitted { comp ≤ length self.now.exts }
-        ensures { result ≡ ending_of ((state self.now).comp (comp - 1)) }
-    {
-        self.comps[(comp - 1 - self.first) as usize].ending()
+        self.recall();
+        self.running(comp).calls.ending().unwrap()
     }
 
     /// Gives the cells back and drops the entries, where all have ended. Where no cells were held, nothing has changed.
@@ -80,14 +66,12 @@ impl<B: Micro> Core<B> {
         requires held { 0 < (state self.old).cells }
         ensures { self.new ≡ with_clear self.old }
     {
-        self.clears.push_reserved(self.journal.len() as u64);
+        self.clears.push_reserved(self.journal.len());
         self.held = 0;
         self.first = self.exts.len() as u32;
-        self.promised = least(self.promised, 3 * self.first as u64);
-        swap(&mut self.comps, &mut self.spare);
-        self.comps.clear();
-        self.private.clear();
-        self.ended.clear();
+        self.journal.keep(COUNTED_OF_ENDED * u64::from(self.first));
+        swap(&mut self.running, &mut self.spare);
+        self.running.clear();
     }
 
     /// What a microprotocol of a node shows, which is in its slot. Where all have ended, it is what the serial run leaves.
@@ -99,7 +83,7 @@ impl<B: Micro> Core<B> {
         ensures serial { AllEnded (state self.now)
             → result ≡ shown (micro_at self.now.script micro.0).kind ((serial self.now.script self.now.exts).states node.0 micro.0) }
     {
-        let _admitted = self.admitted();
+        self.recall();
         self.shown_now(node, micro)
     }
 
@@ -111,10 +95,4 @@ impl<B: Micro> Core<B> {
     {
         self.slots.show(node, micro.0)
     }
-}
-
-fn least(a: u64, b: u64) -> u64
-    ensures { result ≡ min a b }
-{
-    if a < b { a } else { b }
 }

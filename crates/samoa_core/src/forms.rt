@@ -1,15 +1,16 @@
 //! What depends on the form of a declaration: what it weighs and names, when a microprotocol is released, and where a
 //! completed call raises a version.
-ghost use Rattle.std.specs.Prelude.{◌≡◌, length};
+ghost use Rattle.std.specs.Prelude.{◌≡◌, ◌↔◌, ◌<◌, ◌≤◌, ◌+◌, ◌*◌, length, IfSome, IsTrue};
 ghost use Rattle.samoa_model.specs.Allowed.{weight};
-ghost use Rattle.samoa_model.specs.Scripts.{Table};
-ghost use Rattle.samoa_serial.specs.Calls.{Computation};
+ghost use Rattle.samoa_model.specs.Paths.{MayRelease};
 ghost use Rattle.samoa_invariant.specs.State.{named};
-ghost use Rattle.samoa_invariant.specs.Settle.{is_quiet};
-ghost use Rattle.samoa_core.specs.Forms.{IsStanding, IsTestable, raises, waits_for_rest};
+ghost use Rattle.samoa_versions.specs.Counters.{gv_at, lv_at};
+ghost use Rattle.samoa_core.specs.Forms.{IsTestable, raises, risen, waits_for_rest};
 
+use crate::grid::place;
 use samoa_declare::{Standing, weight as weight_of};
-use samoa_model::{Decl, MicroId};
+use samoa_model::{Decl, MicroId, NodeId};
+use samoa_versions::Versions;
 
 /// How much a declaration allows of a microprotocol.
 pub(crate) fn weight(decl: &Decl, micro: u32) -> u32
@@ -36,9 +37,7 @@ pub(crate) fn named_count(decl: &Decl) -> usize
 /// Whether a computation that has its turn at a microprotocol may be done with it.
 pub(crate) fn may_release<T: Standing>(decl: &Decl, standing: &T, micro: u32) -> bool
     requires { IsTestable decl.now }
-    ensures { (table : Table) (comp : Computation)
-        → IsStanding table comp (T.active_handlers standing.now) (T.waiting_handlers standing.now)
-        → result ≡ is_quiet decl.now table comp micro }
+    ensures { IsTrue result ↔ MayRelease decl.now (T.active_handlers standing.now) (T.waiting_handlers standing.now) micro }
 {
     let micro = MicroId(micro);
     match decl {
@@ -58,8 +57,31 @@ pub(crate) fn waits_for_rest(decl: &Decl) -> bool
     }
 }
 
+/// Raises the local version of the microprotocol at which a computation completed a call, if it completed one and its
+/// declaration does so. That version is below the global one.
+pub(crate) fn raise(
+    decl: &Decl,
+    columns: usize,
+    node: NodeId,
+    completed: Option<MicroId>,
+    versions: &mut Versions,
+)
+    requires testable { IsTestable decl.now }
+    requires few { columns ≤ 24 }
+    requires there { IfSome completed (λ micro. node.0 * columns + micro.0 < length versions.old.gv) }
+    requires below { IfSome completed (λ micro. lv_at versions.old (node.0 * columns + micro.0) < gv_at versions.old (node.0 * columns + micro.0)) }
+    ensures lv { versions.new.lv ≡ risen decl.now columns node.0 completed versions.old.lv }
+    ensures gv { versions.new.gv ≡ versions.old.gv }
+{
+    if let Some(micro) = completed {
+        if raises(decl, micro) {
+            versions.raise(place(columns, node.0, micro.0));
+        }
+    }
+}
+
 /// Whether a call that is completed at a microprotocol raises its local version.
-pub(crate) fn raises(decl: &Decl, micro: MicroId) -> bool
+fn raises(decl: &Decl, micro: MicroId) -> bool
     requires { IsTestable decl.now }
     ensures { result ≡ raises decl.now micro.0 }
 {

@@ -1,24 +1,25 @@
 //! The core: what it holds, and what is read of it.
-ghost use Rattle.std.specs.Prelude.{◌≡◌, ℕ, ◌<◌, ◌≤◌, ◌+◌, ◌-◌, ◌*◌, ◌↔◌, length, Some, None, true, false, not, ◌&&◌, IsTrue, IfOk, option_map, IfSome, IfNone};
-ghost use Rattle.samoa_model.specs.Allowed.{weight};
+ghost use Rattle.std.specs.Prelude.{◌≡◌, ℕ, ◌<◌, ◌≤◌, ◌+◌, ◌-◌, ◌↔◌, length, None, true, IsTrue, IfOk, IfSome};
 ghost use Rattle.samoa_model.specs.Cells.{cells_of as computation_cells, need};
 ghost use Rattle.samoa_model.specs.Range.{IsBuilt, IsDeclOf, IsExtOf, IsInRange};
 ghost use Rattle.samoa_model.specs.declared.record.Step.{Step};
 ghost use Rattle.samoa_calls.specs.Handed.{next_moment};
 ghost use Rattle.samoa_micro.specs.Covers.{Covers};
 ghost use Rattle.samoa_invariant.specs.State as model;
+ghost use Rattle.samoa_invariant.specs.Play.{IsIdle};
 ghost use Rattle.samoa_invariant.specs.Runs.{IsDue, IsRun, Trace, ext_at, opening_trace, play, state};
-ghost use Rattle.samoa_invariant.specs.Settle.{is_quiet};
 ghost use Rattle.samoa_core.specs.Since.{cleared_comps};
-ghost use Rattle.samoa_core.specs.Places.{away, out_at, out_of, out_one};
-ghost use Rattle.samoa_core.specs.Scans.{ended_to, has_turn, is_idle};
+ghost use Rattle.samoa_core.specs.Sound.{IsPast, IsSound};
+ghost use Rattle.samoa_core.specs.Places.{away};
+ghost use Rattle.samoa_core.specs.Running.{IsRunning};
 
-use crate::cells::{place, read};
-use crate::forms::{may_release, weight};
-use crate::parts::{cells_of, decl_in, decl_number};
+use crate::forms::may_release;
+use crate::grid::place;
+use crate::journal::Journal;
+use crate::parts::{cells_of, decl_in};
+use crate::running::Running;
 use crate::slots::Slots;
 use samoa_bind::Tables;
-use samoa_calls::Comp;
 use samoa_micro::{Micro, Stock};
 use samoa_model::{Decl, Ext, MicroId, Moment, NoMemory, NodeId, Script, Step};
 use samoa_versions::Versions;
@@ -40,13 +41,12 @@ pub struct Core<B: Micro> {
     pub(crate) versions: Versions,
     pub(crate) exts: Vec<Ext>,
     pub(crate) clears: Vec<u64>,
-    pub(crate) journal: Vec<Step>,
-    pub(crate) promised: u64,
+    pub(crate) journal: Journal,
     pub(crate) first: u32,
-    pub(crate) comps: Vec<Comp>,
-    pub(crate) spare: Vec<Comp>,
-    pub(crate) private: Vec<u64>,
-    pub(crate) ended: Vec<bool>,
+    pub(crate) running: Vec<Running>,
+    pub(crate) spare: Vec<Running>,
+    pub(crate) unended: u32,
+    pub(crate) away: u32,
     pub(crate) stopped: bool,
 }
 
@@ -90,13 +90,12 @@ impl<B: Micro> Core<B> {
             versions,
             exts: Vec::new(alloc),
             clears: Vec::new(alloc),
-            journal: Vec::new(alloc),
-            promised: 0,
+            journal: Journal::new(alloc),
             first: 0,
-            comps: Vec::new(alloc),
+            running: Vec::new(alloc),
             spare: Vec::new(alloc),
-            private: Vec::new(alloc),
-            ended: Vec::new(alloc),
+            unended: 0,
+            away: 0,
             stopped: false,
         })
     }
@@ -132,11 +131,18 @@ impl<B: Micro> Core<B> {
         self.exts.len() as u32
     }
 
+    /// What holds of every core, for a proof that needs it; it costs nothing.
+    pub(crate) fn recall(&self)
+        ensures { IsSound self.now }
+    {
+        let _script = &self.script;
+    }
+
     /// The steps that were made since `new`.
     pub fn journal(&self) -> &[Step]
         ensures { result.now ≡ self.now.journal }
     {
-        self.journal.as_slice()
+        self.journal.steps()
     }
 
     /// Whether a handler step was abandoned. No handler step begins any more then.
@@ -144,6 +150,20 @@ impl<B: Micro> Core<B> {
         ensures { result ≡ (state self.now).stopped }
     {
         self.stopped
+    }
+
+    /// Whether each computation that was admitted has ended.
+    pub fn all_ended(&self) -> bool
+        ensures { IsTrue result ↔ model.AllEnded (state self.now) }
+    {
+        self.unended == 0
+    }
+
+    /// How many microprotocols are out of their slots.
+    pub fn away(&self) -> u32
+        ensures { result ≡ away self.now }
+    {
+        self.away
     }
 
     /// How many computations were cleared away.
@@ -159,67 +179,33 @@ impl<B: Micro> Core<B> {
         self.script.micros.len() as u32
     }
 
-    pub(crate) fn nodes(&self) -> u32
-        ensures nodes { result ≡ self.now.script.nodes }
-        ensures few { result ≤ 8 }
-        ensures few_micros { length self.now.script.micros ≤ 24 }
-    {
-        self.script.nodes
-    }
-
-    pub(crate) fn node(&self, comp: u32) -> NodeId
-        requires first { 0 < comp }
+    /// What is kept of a computation that was admitted since the last clear.
+    pub(crate) fn running(&self, comp: u32) -> &Running
+        requires kept { cleared_comps self.now < comp }
         requires admitted { comp ≤ length self.now.exts }
-        ensures node { result.0 ≡ (play self.now).node (comp - 1) }
-        ensures within { result.0 < self.now.script.nodes }
+        ensures { IsRunning self.now.script self.now.exts (state self.now) (comp - 1) result.now }
     {
-        self.exts[comp as usize - 1].node
+        &self.running[(comp - 1 - self.first) as usize]
     }
 
     pub(crate) fn declaration(&self, comp: u32) -> &Decl
-        requires first { 0 < comp }
+        requires kept { cleared_comps self.now < comp }
         requires admitted { comp ≤ length self.now.exts }
         ensures decl { result.now ≡ (play self.now).decl (comp - 1) }
         ensures known { IsDeclOf self.now.script result.now }
     {
-        let number = decl_number(&self.script, &self.exts[comp as usize - 1]);
-        &decl_in(&self.script, number).decl
+        self.recall();
+        &decl_in(&self.script, self.running(comp).calls.decl()).decl
     }
 
-    /// The slot of a microprotocol at a computation's node.
-    pub(crate) fn slot(&self, comp: u32, micro: u32) -> usize
-        requires first { 0 < comp }
-        requires admitted { comp ≤ length self.now.exts }
+    /// The local version of a microprotocol of a node.
+    fn local(&self, node: NodeId, micro: u32) -> u64
+        requires node { node.0 < self.now.script.nodes }
         requires micro { micro < length self.now.script.micros }
-        ensures { result ≡ (play self.now).node (comp - 1) * length self.now.script.micros + micro }
+        ensures { result ≡ (state self.now).local node.0 micro }
     {
-        let node = self.node(comp);
-        place(self.script.micros.len(), node.0, micro)
-    }
-
-    pub(crate) fn private(&self, comp: u32, micro: u32) -> u64
-        requires kept { cleared_comps self.now < comp }
-        requires admitted { comp ≤ length self.now.exts }
-        requires micro { micro < length self.now.script.micros }
-        ensures { result ≡ (state self.now).private (comp - 1) ((play self.now).node (comp - 1)) micro }
-    {
-        let micros = self.script.micros.len();
-        read(
-            self.private.as_slice(),
-            micros,
-            comp - 1 - self.first,
-            micro,
-        )
-    }
-
-    pub(crate) fn local(&self, comp: u32, micro: u32) -> u64
-        requires first { 0 < comp }
-        requires admitted { comp ≤ length self.now.exts }
-        requires micro { micro < length self.now.script.micros }
-        ensures { result ≡ (state self.now).local ((play self.now).node (comp - 1)) micro }
-    {
-        let slot = self.slot(comp, micro);
-        self.versions.local(slot)
+        self.versions
+            .local(place(self.script.micros.len(), node.0, micro))
     }
 
     /// Whether it is a computation's turn at a microprotocol.
@@ -227,12 +213,26 @@ impl<B: Micro> Core<B> {
         requires kept { cleared_comps self.now < comp }
         requires admitted { comp ≤ length self.now.exts }
         requires micro { micro < length self.now.script.micros }
-        ensures { result ≡ has_turn ((state self.now).private (comp - 1) ((play self.now).node (comp - 1)) micro) ((state self.now).local ((play self.now).node (comp - 1)) micro) (weight ((play self.now).decl (comp - 1)) micro) }
+        ensures { IsTrue result ↔ model.HasTurn (play self.now) (state self.now) (comp - 1) micro }
     {
-        let slot = self.slot(comp, micro);
-        let private = self.private(comp, micro);
-        let weight = weight(self.declaration(comp), micro);
-        self.versions.turn(slot, private, weight)
+        self.recall();
+        let running = self.running(comp);
+        let turn = running.turn(micro);
+        let local = self.local(running.node, micro);
+        turn.from <= local && local < turn.to
+    }
+
+    /// Whether a microprotocol isn't declared by a computation, or it is past its turn there.
+    pub(crate) fn is_past(&self, comp: u32, micro: u32) -> bool
+        requires kept { cleared_comps self.now < comp }
+        requires admitted { comp ≤ length self.now.exts }
+        requires micro { micro < length self.now.script.micros }
+        ensures { IsTrue result ↔ IsPast (play self.now) (state self.now) (comp - 1) micro }
+    {
+        self.recall();
+        let running = self.running(comp);
+        let turn = running.turn(micro);
+        turn.to <= turn.from || turn.to <= self.local(running.node, micro)
     }
 
     pub(crate) fn has_ended(&self, comp: u32) -> bool
@@ -240,28 +240,26 @@ impl<B: Micro> Core<B> {
         requires admitted { comp ≤ length self.now.exts }
         ensures { result ≡ (state self.now).ended (comp - 1) }
     {
-        self.ended[(comp - 1 - self.first) as usize]
+        self.running(comp).ended
     }
 
+    /// Whether nothing is left of a computation's calls.
     pub(crate) fn is_idle(&self, comp: u32) -> bool
         requires kept { cleared_comps self.now < comp }
         requires admitted { comp ≤ length self.now.exts }
-        ensures { result ≡ is_idle ((state self.now).comp (comp - 1)) }
+        ensures { IsTrue result ↔ IsIdle ((state self.now).comp (comp - 1)) }
     {
-        self.comps[(comp - 1 - self.first) as usize].is_over()
+        self.running(comp).calls.is_over()
     }
 
     /// Whether a computation may be done with a microprotocol at which it has its turn.
     pub(crate) fn is_quiet(&self, comp: u32, micro: u32) -> bool
         requires kept { cleared_comps self.now < comp }
         requires admitted { comp ≤ length self.now.exts }
-        ensures { result ≡ is_quiet ((play self.now).decl (comp - 1)) ((state self.now).table (comp - 1)) ((state self.now).comp (comp - 1)) micro }
+        ensures { IsTrue result ↔ model.Quiet ((play self.now).decl (comp - 1)) ((state self.now).table (comp - 1)) ((state self.now).comp (comp - 1)) micro }
     {
-        may_release(
-            self.declaration(comp),
-            &self.comps[(comp - 1 - self.first) as usize],
-            micro,
-        )
+        self.recall();
+        may_release(self.declaration(comp), &self.running(comp).calls, micro)
     }
 
     /// The microprotocol and the moment of the next handler step of a computation, which may be out.
@@ -271,45 +269,32 @@ impl<B: Micro> Core<B> {
         ensures next { result ≡ next_moment ((state self.now).comp (comp - 1)) }
         ensures within { IfSome result (λ step. step.0.0 < length self.now.script.micros) }
     {
-        let _admitted = self.admitted();
-        self.next_of(comp)
-    }
-
-    fn next_of(&self, comp: u32) -> Option<(MicroId, Moment)>
-        requires kept { cleared_comps self.now < comp }
-        requires admitted { comp ≤ length self.now.exts }
-        ensures { result ≡ next_moment ((state self.now).comp (comp - 1)) }
-    {
-        self.comps[(comp - 1 - self.first) as usize].next()
+        self.recall();
+        self.running(comp).calls.next()
     }
 
     pub(crate) fn is_home(&self, node: NodeId, micro: u32) -> bool
         requires node { node.0 < self.now.script.nodes }
         requires micro { micro < length self.now.script.micros }
-        ensures { result ≡ model.is_home ((state self.now).out node.0 micro) }
+        ensures { IsTrue result ↔ (state self.now).out node.0 micro ≡ None }
     {
         self.slots.is_home(node, micro)
-    }
-
-    fn is_ready_at(&self, comp: u32, micro: u32) -> bool
-        requires kept { cleared_comps self.now < comp }
-        requires admitted { comp ≤ length self.now.exts }
-        requires micro { micro < length self.now.script.micros }
-        ensures { result ≡ (has_turn ((state self.now).private (comp - 1) ((play self.now).node (comp - 1)) micro) ((state self.now).local ((play self.now).node (comp - 1)) micro) (weight ((play self.now).decl (comp - 1)) micro)
-            && (model.is_home ((state self.now).out ((play self.now).node (comp - 1)) micro) && not (state self.now).stopped)) }
-    {
-        self.has_turn(comp, micro) && (self.is_home(self.node(comp), micro) && !self.stopped())
     }
 
     /// Whether the next handler step of a computation may begin.
     pub(crate) fn is_ready(&self, comp: u32) -> bool
         requires kept { cleared_comps self.now < comp }
         requires admitted { comp ≤ length self.now.exts }
-        ensures { result ≡ model.is_ready (play self.now) (state self.now) (comp - 1) }
+        ensures { IsTrue result ↔ ((micro : ℕ) × IsDue self.now (Step.Enter comp micro)) }
     {
+        self.recall();
         match self.next(comp) {
             None => false,
-            Some((micro, _)) => self.is_ready_at(comp, micro.0),
+            Some((micro, _)) => {
+                self.has_turn(comp, micro.0)
+                    && self.is_home(self.running(comp).node, micro.0)
+                    && !self.stopped
+            }
         }
     }
 }

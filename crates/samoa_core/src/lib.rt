@@ -3,14 +3,18 @@
 
 mod admission;
 mod answers;
-mod cells;
 mod forms;
+mod grid;
+mod journal;
 mod kernel;
 mod moves;
 mod parts;
+mod running;
 mod scans;
+mod sent;
 mod slots;
 mod turn;
 
 pub use kernel::Core;
+pub use sent::sent_core;
 pub use turn::{Ran, Turn};

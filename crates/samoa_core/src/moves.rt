@@ -6,13 +6,12 @@ ghost use Rattle.samoa_model.specs.declared.handler.Moment.{Moment};
 ghost use Rattle.samoa_serial.specs.Kinds.{after_step, outcome_of};
 ghost use Rattle.samoa_invariant.specs.State as model;
 ghost use Rattle.samoa_invariant.specs.Runs.{IsDue, Trace, play, state, with_step};
-ghost use Rattle.samoa_core.specs.Scans.{IsLater};
+ghost use Rattle.samoa_core.specs.Later.{IsLater};
 ghost use Rattle.samoa_core.specs.Since.{cleared_comps};
 ghost use Rattle.samoa_core.specs.Turns.{HasCome, IsAway, IsNext, box_of};
 
-use crate::cells::note;
 use crate::kernel::Core;
-use crate::parts::{raise, take_in};
+use crate::running::take_outcome_at;
 use crate::turn::{Ran, Turn};
 use samoa_micro::{Held, Micro};
 use samoa_model::{MicroId, Moment, Outcome, Step};
@@ -27,7 +26,7 @@ impl<B: Micro> Core<B> {
         ensures away { IsAway self.new result }
         ensures fewer { model.left (play self.new) (state self.new) < model.left (play self.old) (state self.old) }
     {
-        let _admitted = self.admitted();
+        self.recall();
         let (micro, moment) = self.due(comp);
         let held = self.go_out(comp, micro.0);
         Turn::new(comp, micro.0, moment, held)
@@ -43,7 +42,7 @@ impl<B: Micro> Core<B> {
     {
         let comp = ran.comp();
         let micro = ran.micro();
-        let _admitted = self.admitted();
+        self.recall();
         let (held, outcome) = ran.into_parts();
         self.go_home(comp, micro, held, outcome);
     }
@@ -56,7 +55,7 @@ impl<B: Micro> Core<B> {
     {
         let comp = turn.comp();
         let micro = turn.micro();
-        let _admitted = self.admitted();
+        self.recall();
         let held = turn.into_held();
         self.go_back(comp, micro, held);
     }
@@ -68,7 +67,7 @@ impl<B: Micro> Core<B> {
         ensures due { IsDue self.now (Step.Enter comp result.0.0) }
         ensures within { result.0.0 < length self.now.script.micros }
     {
-        let _admitted = self.admitted();
+        self.recall();
         match self.next(comp) {
             Some(step) => step,
             None => unreachable!(),
@@ -78,17 +77,15 @@ impl<B: Micro> Core<B> {
     /// Takes the microprotocol of a handler step that is due out of its slot.
     fn go_out(&mut self, comp: u32, micro: u32) -> Held<B>
         requires due { IsDue self.old (Step.Enter comp micro) }
+        requires kept { cleared_comps self.old < comp }
         requires within { micro < length self.old.script.micros }
         ensures held { result ≡ box_of self.old comp micro }
         ensures step { self.new ≡ with_step self.old (Step.Enter comp micro) }
     {
-        let node = self.node(comp);
+        let node = self.running(comp).node;
         let held = self.slots.take(node, micro);
-        note(
-            &mut self.journal,
-            &mut self.promised,
-            Step::Enter { comp, micro },
-        );
+        self.away += 1;
+        self.journal.note(Step::Enter { comp, micro });
         held
     }
 
@@ -100,36 +97,33 @@ impl<B: Micro> Core<B> {
         requires within { micro < length self.old.script.micros }
         ensures step { self.new ≡ with_step self.old (Step.Leave comp) }
     {
-        let node = self.node(comp);
+        let node = self.running(comp).node;
         let at = (comp - 1 - self.first) as usize;
         self.slots.put(node, micro, held);
-        let completed = take_in(
-            &mut self.comps,
+        self.away -= 1;
+        take_outcome_at(
+            &mut self.running,
             at,
             &self.script,
             &self.tables,
-            node,
+            &mut self.versions,
             outcome,
         );
-        let ext = &self.exts[comp as usize - 1];
-        raise(&self.script, ext, completed, &mut self.versions);
-        note(&mut self.journal, &mut self.promised, Step::Leave { comp });
+        self.journal.note(Step::Leave { comp });
     }
 
     /// Puts the microprotocol of a handler step that is out back as it was.
     fn go_back(&mut self, comp: u32, micro: u32, held: Held<B>)
         requires due { IsDue self.old (Step.Abandon comp) }
         requires next { (moment : Moment) × IsNext self.old (record { comp = comp; micro = micro; moment = moment; before = held }) }
+        requires kept { cleared_comps self.old < comp }
         requires within { micro < length self.old.script.micros }
         ensures step { self.new ≡ with_step self.old (Step.Abandon comp) }
     {
-        let node = self.node(comp);
+        let node = self.running(comp).node;
         self.slots.put(node, micro, held);
+        self.away -= 1;
         self.stopped = true;
-        note(
-            &mut self.journal,
-            &mut self.promised,
-            Step::Abandon { comp },
-        );
+        self.journal.note(Step::Abandon { comp });
     }
 }

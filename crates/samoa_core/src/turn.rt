@@ -8,8 +8,8 @@ use std::alloc::Global;
 use std::marker::Model;
 use std::snapshot::Snapshot;
 
-/// A handler step that has begun: its microprotocol is out of its slot.
-#[derive(Drop)]
+/// A handler step that has begun: its microprotocol is out of its slot. It can't be dropped, so that it comes back: by
+/// `Core::leave` once it was made, or by `Core::abandon`.
 pub struct Turn<B: Micro> {
     comp: u32,
     micro: u32,
@@ -28,8 +28,8 @@ impl<B: Micro> Model for Turn<B> {
     ghost invariant = { λ t. t.held.fresh ≡ false };
 }
 
-/// A handler step that was made: its microprotocol is still out, and holds its outcome.
-#[derive(Drop)]
+/// A handler step that was made: its microprotocol is still out, and holds its outcome. It can't be dropped, so that it
+/// comes back by `Core::leave`.
 pub struct Ran<B: Micro> {
     comp: u32,
     micro: u32,

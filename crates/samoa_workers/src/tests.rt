@@ -1,21 +1,20 @@
-//! Two computations that are admitted together.
+//! Two computations that are admitted together, drained to their end and to want of memory.
 ghost use Rattle.std.specs.Prelude.{◌≡◌, ◌<◌, ◌≤◌, [], IfOk, length, OnOk};
 ghost use Rattle.samoa_model.specs.Cells.{need};
 ghost use Rattle.samoa_model.specs.Range.{IsBuilt, IsInRange};
 ghost use Rattle.samoa_model.specs.declared.script.Decl.{Decl};
 ghost use Rattle.samoa_micro.specs.Covers.{Covers};
-ghost use Rattle.samoa_core.specs.Scans.{IsStill};
+ghost use Rattle.samoa_core.specs.Later.{IsStill};
 ghost use Rattle.samoa_invariant.specs.State as model;
 ghost use Rattle.samoa_invariant.specs.Runs.{play, state};
 ghost use Rattle.samoa_workers.specs.Two.{IsOfTwo};
 
-use crate::batch::step;
 use crate::{Batch, drain};
 use samoa_core::Core;
-use samoa_micro::Stock;
+use samoa_micro::{Micro, Stock};
 use samoa_model::{
     Cause, CodeDef, Decl, DeclDef, EventDef, EventId, Ext, HandlerId, Instr, Kind, Listed,
-    MicroDef, MicroId, Name, NoMemory, NodeId, Script, Step, Words,
+    MicroDef, MicroId, Moment, Name, NoMemory, NodeId, Outcome, Script, Setup, Step, Words,
 };
 use samoa_prog::Prog;
 use std::alloc::Global;
@@ -140,19 +139,6 @@ fn script_of(
     })
 }
 
-/// Each microprotocol in a set of its own.
-fn two_sets(alloc: Global) -> Result<Script, NoMemory>
-    ensures range { IfOk result IsInRange }
-    ensures built { IfOk result IsBuilt }
-    ensures nodes { IfOk result (λ script. script.nodes ≡ 1) }
-    ensures events { IfOk result (λ script. length script.events ≡ 2) }
-    ensures need { IfOk result (λ script. need script ≡ 528) }
-{
-    let first = set_of("sa", Vec::from_array(alloc, [0])?);
-    let second = set_of("sb", Vec::from_array(alloc, [1])?);
-    script_of(alloc, Vec::new(alloc), first, second)
-}
-
 /// A bound of one call at `a`, which calls `b` three times, and two at `b`; and a set of `b`.
 fn bound_and_set(alloc: Global) -> Result<Script, NoMemory>
     ensures range { IfOk result IsInRange }
@@ -167,7 +153,47 @@ fn bound_and_set(alloc: Global) -> Result<Script, NoMemory>
     script_of(alloc, calls, first, second)
 }
 
-fn covered(script: &Script, stock: &Stock<Prog>) -> Result<(), Fail>
+/// A scripted microprotocol that finds no memory once it has made so many handler steps.
+#[derive(Drop)]
+struct Faint {
+    prog: Prog,
+    left: u32,
+}
+
+impl Micro for Faint {
+    ghost seen = { λ f. ⟦<Prog as Micro>⟧.seen f.prog };
+
+    fn kind(&self) -> Kind {
+        self.prog.kind()
+    }
+
+    fn set_up(&mut self, alloc: Global, setup: &Setup) -> Result<(), NoMemory> {
+        self.prog.set_up(alloc, setup)
+    }
+
+    fn step(&mut self, alloc: Global, moment: &Moment) -> Result<Outcome, NoMemory> {
+        if self.left == 0 {
+            return Err(NoMemory);
+        }
+        self.left -= 1;
+        self.prog.step(alloc, moment)
+    }
+
+    fn show(&self) -> Words {
+        self.prog.show()
+    }
+}
+
+fn faint(alloc: Global, left: u32) -> Faint
+    ensures { (⟦<Faint as Micro>⟧.seen result).fresh ≡ true }
+{
+    Faint {
+        prog: Prog::new(alloc),
+        left,
+    }
+}
+
+fn covered(script: &Script, stock: &Stock<Faint>) -> Result<(), Fail>
     ensures { OnOk result (Covers script.now stock.now) }
 {
     if stock.covers(script) {
@@ -177,34 +203,23 @@ fn covered(script: &Script, stock: &Stock<Prog>) -> Result<(), Fail>
     }
 }
 
-/// A core for a script in which these events are admitted together.
-fn with_two(
-    alloc: Global,
-    rt: &impl Abort,
-    script: &Script,
-    events: (u32, u32),
-) -> Result<Core<Prog>, Fail>
-    requires range { IsInRange script.now }
-    requires built { IsBuilt script.now }
-    requires nodes { script.now.nodes ≡ 1 }
-    requires events { length script.now.events ≡ 2 }
-    requires need { need script.now ≡ 528 }
-    requires first { events.0 < 2 }
-    requires second { events.1 < 2 }
+/// A core in which both events of the script were admitted, and whose microprotocols have memory for so many steps each.
+fn with_two(alloc: Global, rt: &impl Abort, steps: u32) -> Result<Core<Faint>, Fail>
     ensures settled { IfOk result (λ core. model.IsSettled (play core) (state core)) }
     ensures home { IfOk result (λ core. model.NothingOut (state core)) }
 {
-    let stock = Stock::new(Vec::from_array(alloc, [Prog::new(alloc), Prog::new(alloc)])?);
-    covered(script, &stock)?;
-    let mut core = Core::new(alloc, script, stock, 2000)?;
-    admit_one(alloc, rt, &mut core, events.0)?;
-    admit_one(alloc, rt, &mut core, events.1)?;
+    let script = bound_and_set(alloc)?;
+    let stock = Stock::new(Vec::from_array(alloc, [faint(alloc, steps), faint(alloc, steps)])?);
+    covered(&script, &stock)?;
+    let mut core = Core::new(alloc, &script, stock, 2000)?;
+    admit_one(alloc, rt, &mut core, 0)?;
+    admit_one(alloc, rt, &mut core, 1)?;
     core.settle();
     Ok(core)
 }
 
 /// Admits the event of a microprotocol, in a core in which nothing is out.
-fn admit_one(alloc: Global, rt: &impl Abort, core: &mut Core<Prog>, event: u32) -> Result<(), Fail>
+fn admit_one(alloc: Global, rt: &impl Abort, core: &mut Core<Faint>, event: u32) -> Result<(), Fail>
     requires event { event < 2 }
     requires nodes { core.old.script.nodes ≡ 1 }
     requires events { length core.old.script.events ≡ 2 }
@@ -225,16 +240,26 @@ fn admit_one(alloc: Global, rt: &impl Abort, core: &mut Core<Prog>, event: u32) 
     }
 }
 
+/// The bound's one call at `a` makes three calls at `b`, of which the third is refused.
 #[test]
-fn drains_two(rt: HostRuntime) -> Result<(), Fail> {
-    let mut core = with_two(rt.alloc(), &rt, &two_sets(rt.alloc())?, (0, 1))?;
+fn drains_to_the_end(rt: HostRuntime) -> Result<(), Fail> {
+    let mut core = with_two(rt.alloc(), &rt, 8)?;
     assert_eq!(rt; drain(rt.alloc(), &mut core), Batch::Done);
     let steps = [
         Step::Admit { comp: 1 },
         Step::Admit { comp: 2 },
         Step::Enter { comp: 1, micro: 0 },
         Step::Leave { comp: 1 },
-        Step::Release { comp: 1, micro: 0 },
+        Step::Enter { comp: 1, micro: 1 },
+        Step::Leave { comp: 1 },
+        Step::Enter { comp: 1, micro: 0 },
+        Step::Leave { comp: 1 },
+        Step::Enter { comp: 1, micro: 1 },
+        Step::Leave { comp: 1 },
+        Step::Enter { comp: 1, micro: 0 },
+        Step::Leave { comp: 1 },
+        Step::Enter { comp: 1, micro: 0 },
+        Step::Leave { comp: 1 },
         Step::End { comp: 1 },
         Step::Enter { comp: 2, micro: 1 },
         Step::Leave { comp: 2 },
@@ -245,47 +270,14 @@ fn drains_two(rt: HostRuntime) -> Result<(), Fail> {
     Ok(())
 }
 
-/// The next that may begin once the first has, where the second is at this microprotocol.
-fn next_of_two(alloc: Global, rt: &impl Abort, second: u32) -> Result<Option<u32>, Fail>
-    requires { second < 2 }
-{
-    let mut core = with_two(alloc, rt, &two_sets(alloc)?, (0, second))?;
-    if let Some(comp) = core.pick() {
-        let _turn = core.enter(comp);
-    }
-    Ok(core.pick())
-}
-
+/// The second handler step at `a` finds no memory: its turn comes back and is abandoned, and nothing begins any more.
 #[test]
-fn waits_for_its_turn(rt: HostRuntime) -> Result<(), Fail> {
-    assert_eq!(rt; next_of_two(rt.alloc(), &rt, 1)?, Some(2));
-    assert_eq!(rt; next_of_two(rt.alloc(), &rt, 0)?, None);
-    Ok(())
-}
-
-/// One turn of the least computation that may begin one.
-fn next_turn(alloc: Global, core: &mut Core<Prog>)
-    requires home { model.NothingOut (state core.old) }
-    ensures home { model.NothingOut (state core.new) }
-{
-    if let Some(comp) = core.pick() {
-        step(alloc, core, comp);
-    }
-}
-
-/// The bound's two calls at `b` are completed, so `b` is handed on while the computation is still out at `a`.
-#[test]
-fn hands_on_within_a_leave(rt: HostRuntime) -> Result<(), Fail> {
-    let alloc = rt.alloc();
-    let mut core = with_two(alloc, &rt, &bound_and_set(alloc)?, (0, 1))?;
-    next_turn(alloc, &mut core);
-    next_turn(alloc, &mut core);
-    next_turn(alloc, &mut core);
-    next_turn(alloc, &mut core);
-    if let Some(comp) = core.pick() {
-        let _turn = core.enter(comp);
-    }
-    assert_eq!(rt; core.pick(), Some(2));
+fn stops_without_memory(rt: HostRuntime) -> Result<(), Fail> {
+    let mut core = with_two(rt.alloc(), &rt, 1)?;
+    assert_eq!(rt; drain(rt.alloc(), &mut core), Batch::Memory);
+    assert!(rt; core.stopped());
+    assert_eq!(rt; core.away(), 0);
+    assert_eq!(rt; core.pick(), None);
     let steps = [
         Step::Admit { comp: 1 },
         Step::Admit { comp: 2 },
@@ -294,10 +286,7 @@ fn hands_on_within_a_leave(rt: HostRuntime) -> Result<(), Fail> {
         Step::Enter { comp: 1, micro: 1 },
         Step::Leave { comp: 1 },
         Step::Enter { comp: 1, micro: 0 },
-        Step::Leave { comp: 1 },
-        Step::Enter { comp: 1, micro: 1 },
-        Step::Leave { comp: 1 },
-        Step::Enter { comp: 1, micro: 0 },
+        Step::Abandon { comp: 1 },
     ];
     assert_eq!(rt; core.journal(), steps.as_slice());
     Ok(())

@@ -1,6 +1,6 @@
-use Rattle.std.proofs.Common.{◌≡◌, sym, subst}
+use Rattle.std.proofs.Common.{◌≡◌, subst, sym}
 use Rattle.samoa_invariant.specs.Runs.{Trace, state}
-use Rattle.samoa_core.specs.Scans.{IsStill}
+use Rattle.samoa_core.specs.Later.{IsStill}
 use Rattle.samoa_core.proofs.Answered.{none-held, still-cleared}
 use Rattle.samoa_core.proofs.kernel.Core.clear.Goals as goal
 

@@ -1,8 +1,8 @@
-use Rattle.std.proofs.Common.{arith, ◌≡◌, ◌≤◌, ◌<◌, length, sym, subst}
+use Rattle.std.proofs.Common.{arith, ◌≡◌, ◌≤◌, ◌<◌, ◌*◌, min, refl, length, sym, subst}
 use Rattle.samoa_invariant.specs.State as model
 use Rattle.samoa_invariant.specs.Runs.{Trace, state}
 use Rattle.samoa_core.specs.Fields.{fields_of}
-use Rattle.samoa_core.specs.Kept.{Fields, Kept, trace_of}
+use Rattle.samoa_core.specs.Kept.{Fields, trace_of}
 use Rattle.samoa_core.proofs.Answered.{kept-clear}
 use Rattle.samoa_core.proofs.Facts.{few}
 use Rattle.samoa_core.proofs.kernel.Core.clear_held.Goals as goal
@@ -17,12 +17,9 @@ overflow_cast-self g c =
 pub invariant_of-self : goal.invariant_of-self
 invariant_of-self g c =
     let fs : Fields = fields_of c.self.inside in
-    let kept : Kept fs = c.self.invariant in
     let all : model.AllEnded (state (trace_of fs)) = subst (λ (x : Trace). model.AllEnded (state x)) (sym c.self.view_is) c.requires.all in
     let held : 0 < (state (trace_of fs)).cells = subst (λ (x : Trace). 0 < (state x).cells) (sym c.self.view_is) c.requires.held in
     let ok = c.self.inside.exts.ok in
     let first : c.len-2.result ≡ length fs.exts = omega (arith, ok, c.len-2.ensures) in
-    let steps = c.self.inside.journal.ok in
-    let long : c.len.result ≡ length fs.journal = omega (arith, steps, c.len.ensures) in
-    rw (c.push_reserved.ensures.items, long, c.push_reserved.ensures.capacity, c.clear.ensures.items, c.clear-2.ensures.items, c.clear-3.ensures.items)
-    (kept-clear fs c.len-2.result c.least-self-inside.result kept all held first c.least-self-inside.ensures)
+    rw (c.push_reserved.ensures.items, c.push_reserved.ensures.capacity, c.len.ensures, c.keep.ensures, c.from.ensures, c.clear.ensures.items)
+    (kept-clear fs c.len-2.result (min fs.promised (3 * c.len-2.result)) c.self.invariant all held first refl)

@@ -1,23 +1,29 @@
-use Rattle.std.proofs.Common.{◌-◌, length, subst}
-use Rattle.samoa_model.specs.declared.record.Step.{Step}
-use Rattle.samoa_invariant.specs.Runs.{IsDue, Trace, state}
-use Rattle.samoa_core.specs.Scans.{finished}
-use Rattle.samoa_core.proofs.Settling.{Ended, IsFit, fit, no_end, none-ended}
-use Rattle.samoa_core.proofs.Later.{later-finished}
+use Rattle.std.proofs.Common.{arith, ◌≡◌, ◌≤◌, ◌<◌, ◌+◌, ◌∙◌, ap, sym, refl, length, ℕ}
+use Rattle.samoa_invariant.specs.Runs.{Trace}
+use Rattle.samoa_invariant.specs.Settling.{EndsBefore}
+use Rattle.samoa_invariant.proofs.Releasing.{ends-leave}
+use Rattle.samoa_core.specs.Later.{IsLater}
+use Rattle.samoa_core.specs.Since.{cleared_comps}
+use Rattle.samoa_core.proofs.Later.{later-made, still-unmoved}
+use Rattle.samoa_core.proofs.Passes.{ends-begin, ends-end}
 use Rattle.samoa_core.proofs.kernel.Core.end_all.Goals as goal
 
-pub returns-clause-none : goal.returns-clause-none
-returns-clause-none g c comp due =
-    let t : Trace = c.args.self.now in
-    let fits : IsFit t = fit t c.admitted-admitted.ensures.in_range in
-    no_end t fits c.admitted-admitted.ensures.run c.admitted-admitted.ensures.all (comp - 1) (subst (λ (x : Trace). IsDue x (Step.End comp)) c.end_each.ensures.trace due).enabled
+pub loop-comp-init : goal.loop-comp-init
+loop-comp-init g c = record {
+  made = rw c.cleared.ensures (ends-begin c.args.self.now c.recall.ensures);
+  cleared = (let e = c.cleared.ensures in omega (arith, e));
+  admitted = sym c.admitted.ensures.count;
+  below = (let e = c.cleared.ensures in let n = c.admitted.ensures.count in let le = c.admitted.ensures.cleared in omega (arith, e, n, le));
+}
 
-pub returns-clause-still : goal.returns-clause-still
-returns-clause-still g c =
-    let t : Trace = c.args.self.now in
-    let fits : IsFit t = fit t c.admitted-admitted.ensures.in_range in
-    let a : Ended (state t) (finished t) (length t.exts) = none-ended t fits c.admitted-admitted.ensures.run c.admitted-admitted.ensures.all in
-    rw c.end_each.ensures.trace (record { out = a.out; stopped = a.stopped })
-
-pub returns-clause-later : goal.returns-clause-later
-returns-clause-later g c = rw c.end_each.ensures.trace (later-finished c.args.self.now c.admitted-admitted.ensures.run)
+pub loop-comp-preserved : goal.loop-comp-preserved
+loop-comp-preserved g c =
+    let made : EndsBefore c.args.self.now c.try_end.new.self (c.loop-comp.comp + 1 + 1) = c.try_end.ensures c.args.self.now c.recall.ensures.run c.loop-comp.invariant.made in
+    let later : IsLater c.args.self.now c.try_end.new.self = later-made c.args.self.now c.try_end.new.self made.steps c.recall.ensures.run made.made in
+    let first : cleared_comps c.args.self.now ≤ length c.args.self.now.exts = c.admitted.ensures.cleared in
+    record {
+      made = made;
+      cleared = search rules;
+      admitted = ap length later.exts ∙ sym c.admitted.ensures.count;
+      below = omega arith;
+    }

@@ -1,30 +1,29 @@
-use Rattle.std.proofs.Common.{◌≡◌, ◌∙◌, ◌<◌, ◌-◌, length, ap, sym, subst}
+use Rattle.std.proofs.Common.{arith, ◌-◌, ◌≤◌, sym, subst}
 use Rattle.samoa_model.specs.declared.record.Step.{Step}
-use Rattle.samoa_invariant.specs.Runs.{IsDue, Trace, play}
+use Rattle.samoa_invariant.specs.Runs.{Trace}
 use Rattle.samoa_core.specs.Fields.{fields_of}
-use Rattle.samoa_core.specs.Kept.{Fields, Kept, trace_of}
-use Rattle.samoa_core.specs.Turns.{Going, IsNext}
-use Rattle.samoa_core.proofs.Going.{kept-abandon}
+use Rattle.samoa_core.specs.Turns.{IsNext}
+use Rattle.samoa_core.proofs.Going.{at-step, kept-abandon, some-away}
 use Rattle.samoa_core.proofs.Keeps.{some_promised}
 use Rattle.samoa_core.proofs.kernel.Core.go_back.Goals as goal
 
-pub note-requires-clause-some : goal.note-requires-clause-some
-note-requires-clause-some g c =
-    let fs : Fields = fields_of c.self.inside in
-    let t : Trace = trace_of fs in
-    let kept : Kept fs = c.self.invariant in
-    let due : IsDue t (Step.Abandon c.args.comp) = subst (λ (x : Trace). IsDue x (Step.Abandon c.args.comp)) (sym c.self.view_is) c.requires.due in
-    some_promised fs (Step.Abandon c.args.comp) kept tt due
+pub overflow_sub-self : goal.overflow_sub-self
+overflow_sub-self g c =
+    let some = some-away (fields_of c.self.inside) c.args.comp c.self.invariant
+        (at-step (fields_of c.self.inside) c.args.self.now c.args.comp c.args.micro (Step.Abandon c.args.comp) c.running.result.now c.self.view_is c.requires.due c.requires.kept c.requires.within c.running.ensures).due.enabled in
+    omega (arith, some)
+
+pub note-requires : goal.note-requires
+note-requires g c =
+    some_promised (fields_of c.self.inside) (Step.Abandon c.args.comp) c.self.invariant tt
+    (at-step (fields_of c.self.inside) c.args.self.now c.args.comp c.args.micro (Step.Abandon c.args.comp) c.running.result.now c.self.view_is c.requires.due c.requires.kept c.requires.within c.running.ensures).due
 
 pub invariant_of-self : goal.invariant_of-self
 invariant_of-self g c =
-    let fs : Fields = fields_of c.self.inside in
-    let t : Trace = trace_of fs in
-    let kept : Kept fs = c.self.invariant in
-    let due : IsDue t (Step.Abandon c.args.comp) = subst (λ (x : Trace). IsDue x (Step.Abandon c.args.comp)) (sym c.self.view_is) c.requires.due in
-    let within : c.args.micro < length fs.script.micros = subst (λ (x : Trace). c.args.micro < length x.script.micros) (sym c.self.view_is) c.requires.within in
-    let node : c.node-node.result.0 ≡ (play t).node (c.args.comp - 1) = c.node-node.ensures.node ∙ ap (λ (x : Trace). (play x).node (c.args.comp - 1)) (sym c.self.view_is) in
-    let going : Going = record { comp = c.args.comp; micro = c.args.micro; moment = c.requires.next.0; before = c.args.held } in
-    let next : IsNext t going = subst (λ (x : Trace). IsNext x going) (sym c.self.view_is) c.requires.next.1 in
-    rw (c.note.ensures.steps, c.note.ensures.room, c.note.ensures.promised, c.put.ensures, node)
-    (kept-abandon fs c.args.comp c.args.micro c.requires.next.0 c.args.held kept due next within)
+    rw (c.note.ensures, c.put.ensures)
+    (kept-abandon (fields_of c.self.inside) c.args.comp c.args.micro _ c.args.held c.self.invariant
+    (record {
+      at = at-step (fields_of c.self.inside) c.args.self.now c.args.comp c.args.micro (Step.Abandon c.args.comp) c.running.result.now c.self.view_is c.requires.due c.requires.kept c.requires.within c.running.ensures;
+      moment = c.requires.next.0;
+      next = subst (λ (x : Trace). IsNext x (record { comp = c.args.comp; micro = c.args.micro; moment = c.requires.next.0; before = c.args.held })) (sym c.self.view_is) c.requires.next.1;
+    }))

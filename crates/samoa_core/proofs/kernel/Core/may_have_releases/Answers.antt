@@ -1,15 +1,10 @@
-use Rattle.std.proofs.Common.{arith, ◌≡◌, ◌∙◌, ◌-◌, ℕ, length, sym, true}
-use Rattle.samoa_invariant.specs.Runs.{Trace, state}
-use Rattle.samoa_invariant.proofs.Traces.{invariant}
-use Rattle.samoa_core.proofs.Tests.{skip_release}
+use Rattle.std.proofs.Common.{◌≡◌, ◌∙◌, ◌-◌, sym, true}
+use Rattle.samoa_invariant.specs.Runs.{state}
+use Rattle.samoa_invariant.proofs.Making.{due-open}
+use Rattle.samoa_core.proofs.Passes.{due-idle}
 use Rattle.samoa_core.proofs.kernel.Core.may_have_releases.Goals as goal
 
 pub returns-else-not-has_ended : goal.returns-else-not-has_ended
-returns-else-not-has_ended g c e p =
-    let t : Trace = c.args.self.now in
-    let k : ℕ = c.args.comp - 1 in
-    let all : (state t).count ≡ length t.exts = c.admitted-admitted.ensures.all in
-    let first = c.requires.kept in
-    let last = c.requires.admitted in
-    let ended : (state t).ended k ≡ true = sym c.has_ended.ensures ∙ c.if-not-has_ended.false in
-    skip_release t k p (invariant t c.admitted-admitted.ensures.run) (omega (arith, first, last, all)) ended
+returns-else-not-has_ended g c p due =
+    let ended : (state c.args.self.now).ended (c.args.comp - 1) ≡ true = sym c.has_ended.ensures ∙ c.if-not-has_ended.false in
+    absurd (due-open c.args.self.now c.args.comp p c.recall.ensures.run due ended)

@@ -1,24 +1,29 @@
-use Rattle.std.proofs.Common.{◌-◌, subst}
-use Rattle.samoa_model.specs.declared.record.Step.{Step}
-use Rattle.samoa_invariant.specs.Runs.{IsDue, Trace, state}
-use Rattle.samoa_core.specs.Scans.{released}
-use Rattle.samoa_core.proofs.Settling.{IsFit, Released, fit, none-released}
-use Rattle.samoa_core.proofs.Later.{later-released}
+use Rattle.std.proofs.Common.{arith, ◌≡◌, ◌≤◌, ◌<◌, ◌+◌, ◌∙◌, ap, sym, refl, length, ℕ}
+use Rattle.samoa_invariant.specs.Runs.{Trace}
+use Rattle.samoa_invariant.specs.Settling.{ReleasesBefore}
+use Rattle.samoa_invariant.proofs.Releasing.{releases-leave}
+use Rattle.samoa_core.specs.Later.{IsLater}
+use Rattle.samoa_core.specs.Since.{cleared_comps}
+use Rattle.samoa_core.proofs.Later.{later-made, still-unmoved}
+use Rattle.samoa_core.proofs.Passes.{pass-begins, pass-goes_on, pass-ends}
 use Rattle.samoa_core.proofs.kernel.Core.release_all.Goals as goal
 
-pub returns-clause-none : goal.returns-clause-none
-returns-clause-none g c comp micro due =
-    let t : Trace = c.args.self.now in
-    let fits : IsFit t = fit t c.admitted-admitted.ensures.in_range in
-    let r : Released (state t) (released t) = none-released t fits c.admitted-admitted.ensures.run c.admitted-admitted.ensures.all in
-    r.none (comp - 1) micro (subst (λ (x : Trace). IsDue x (Step.Release comp micro)) c.release_each.ensures.trace due).enabled
+pub loop-comp-init : goal.loop-comp-init
+loop-comp-init g c = record {
+  made = rw c.cleared.ensures (pass-begins c.args.self.now c.recall.ensures);
+  cleared = (let e = c.cleared.ensures in omega (arith, e));
+  admitted = sym c.admitted.ensures.count;
+  below = (let e = c.cleared.ensures in let n = c.admitted.ensures.count in let le = c.admitted.ensures.cleared in omega (arith, e, n, le));
+}
 
-pub returns-clause-still : goal.returns-clause-still
-returns-clause-still g c =
-    let t : Trace = c.args.self.now in
-    let fits : IsFit t = fit t c.admitted-admitted.ensures.in_range in
-    let r : Released (state t) (released t) = none-released t fits c.admitted-admitted.ensures.run c.admitted-admitted.ensures.all in
-    rw c.release_each.ensures.trace (record { out = r.out; stopped = r.stopped })
-
-pub returns-clause-later : goal.returns-clause-later
-returns-clause-later g c = rw c.release_each.ensures.trace (later-released c.args.self.now c.admitted-admitted.ensures.run)
+pub loop-comp-preserved : goal.loop-comp-preserved
+loop-comp-preserved g c =
+    let made : ReleasesBefore c.args.self.now c.release_of.new.self (c.loop-comp.comp + 1 + 1) = pass-goes_on c.args.self.now c.loop-comp.self c.release_of.new.self (c.loop-comp.comp + 1) _ c.recall.ensures.run c.recall-in-loop.ensures refl c.loop-comp.invariant.made c.release_of.ensures in
+    let later : IsLater c.args.self.now c.release_of.new.self = later-made c.args.self.now c.release_of.new.self made.steps c.recall.ensures.run made.made in
+    let first : cleared_comps c.args.self.now ≤ length c.args.self.now.exts = c.admitted.ensures.cleared in
+    record {
+      made = made;
+      cleared = search rules;
+      admitted = ap length later.exts ∙ sym c.admitted.ensures.count;
+      below = omega arith;
+    }

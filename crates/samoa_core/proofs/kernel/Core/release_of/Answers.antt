@@ -1,27 +1,36 @@
-use Rattle.std.proofs.Common.{arith, ◌∙◌, ◌≤◌, length, List, ap, sym}
-use Rattle.samoa_model.specs.declared.record.Step.{Step}
-use Rattle.samoa_invariant.specs.State as model
-use Rattle.samoa_invariant.specs.Runs.{Trace, play, state}
-use Rattle.samoa_core.specs.Scans.{try_release, with_journal}
-use Rattle.samoa_core.proofs.Tests.{releases_of-more, skip_of}
+use Rattle.std.proofs.Common.{arith, ◌≡◌, ◌≤◌, ◌<◌, ◌∙◌, ap, sym, subst, length, true, false, ℕ}
+use Rattle.samoa_invariant.specs.Runs.{Trace}
+use Rattle.samoa_invariant.specs.Settling.{ReleasesOf}
+use Rattle.samoa_invariant.proofs.Making.{releases_of-none}
+use Rattle.samoa_core.specs.Later.{IsLater}
+use Rattle.samoa_core.proofs.Later.{later-made}
+use Rattle.samoa_core.proofs.Passes.{none-released}
 use Rattle.samoa_core.proofs.kernel.Core.release_of.Goals as goal
 
-pub returns-then-not-may_have_releases-clause-trace : goal.returns-then-not-may_have_releases-clause-trace
-returns-then-not-may_have_releases-clause-trace g c =
-    let t : Trace = c.args.self.now in
-    sym (ap (λ (xs : List Step). with_journal t xs) (skip_of t c.args.comp (length t.script.micros) (c.may_have_releases.ensures c.if-not-may_have_releases.true)))
+pub returns-then-not-may_have_releases : goal.returns-then-not-may_have_releases
+returns-then-not-may_have_releases g c =
+    none-released c.args.self.now c.args.comp (length c.args.self.now.script.micros)
+    (λ p due. let yes : c.may_have_releases.result ≡ true = c.may_have_releases.ensures p due in let no = c.if-not-may_have_releases.true in cc)
+
+pub loop-micro-init : goal.loop-micro-init
+loop-micro-init g c = record {
+  made = releases_of-none c.args.self.now c.args.comp;
+  kept = c.requires.kept;
+  admitted = c.requires.admitted;
+  micros = sym c.micros.ensures;
+  below = omega arith;
+}
 
 pub loop-micro-preserved : goal.loop-micro-preserved
 loop-micro-preserved g c =
-    let before : model.left (play c.loop-micro.self) (state c.loop-micro.self) ≤ model.left (play c.args.self.now) (state c.args.self.now) = c.loop-micro.invariant.not_more in
-    let less : model.left (play c.try_release.new.self) (state c.try_release.new.self) ≤ model.left (play c.loop-micro.self) (state c.loop-micro.self) = c.try_release.ensures.not_more in
+    let made = c.try_release.ensures c.args.self.now c.recall.ensures.run c.loop-micro.invariant.made in
+    let later : IsLater c.args.self.now c.try_release.new.self = later-made c.args.self.now c.try_release.new.self made.steps c.recall.ensures.run made.made in
+    let kept = c.requires.kept in
+    let admitted = c.requires.admitted in
     record {
-      fact =
-          c.try_release.ensures.trace
-          ∙ (ap (λ (t : Trace). with_journal t (try_release t c.args.comp c.loop-micro.micro)) c.loop-micro.invariant.fact
-          ∙ sym (ap (with_journal c.args.self.now) (releases_of-more c.args.self.now c.args.comp c.loop-micro.micro)));
-      cleared = c.try_release.ensures.cleared ∙ c.loop-micro.invariant.cleared;
-      not_more = omega (arith, before, less);
+      made = made;
+      kept = rw later.cleared kept;
+      admitted = rw later.exts admitted;
+      micros = ap (λ s. length s.micros) later.script ∙ sym c.micros.ensures;
       below = omega arith;
-      most = c.loop-micro.invariant.most;
     }

@@ -1,23 +1,15 @@
-use Rattle.samoa_invariant.specs.Runs.{Trace}
-use Rattle.samoa_core.proofs.Settling.{none-released, IsFit, fit, settling}
-use Rattle.samoa_core.proofs.Later.{later-settled}
+use Rattle.samoa_invariant.specs.Settling.{Settles}
+use Rattle.samoa_invariant.proofs.Releasing.{settles-settled}
+use Rattle.samoa_core.proofs.Later.{later-trans}
 use Rattle.samoa_core.proofs.kernel.Core.settle.Goals as goal
+
+pub returns-clause-settles : goal.returns-clause-settles
+returns-clause-settles g c = record { between = c.release_all.new.self; releases = c.release_all.ensures.releases; ends = c.end_all.ensures.ends }
 
 pub returns-clause-settled : goal.returns-clause-settled
 returns-clause-settled g c =
-    let t : Trace = c.args.self.now in
-    let fits : IsFit t = fit t c.admitted-admitted.ensures.in_range in
-    rw (c.end_all.ensures.trace, c.release_all.ensures.trace) (settling t fits c.admitted-admitted.ensures.run c.admitted-admitted.ensures.all).settled
-
-pub returns-clause-still : goal.returns-clause-still
-returns-clause-still g c =
-    let t : Trace = c.args.self.now in
-    let fits : IsFit t = fit t c.admitted-admitted.ensures.in_range in
-    rw (c.end_all.ensures.trace, c.release_all.ensures.trace) (settling t fits c.admitted-admitted.ensures.run c.admitted-admitted.ensures.all).still
+    settles-settled c.args.self.now c.end_all.new.self c.recall.ensures.run
+    (record { between = c.release_all.new.self; releases = c.release_all.ensures.releases; ends = c.end_all.ensures.ends })
 
 pub returns-clause-later : goal.returns-clause-later
-returns-clause-later g c =
-    let t : Trace = c.args.self.now in
-    let fits : IsFit t = fit t c.admitted-admitted.ensures.in_range in
-    rw (c.end_all.ensures.trace, c.release_all.ensures.trace)
-    (later-settled t c.admitted-admitted.ensures.run (none-released t fits c.admitted-admitted.ensures.run c.admitted-admitted.ensures.all).run)
+returns-clause-later g c = later-trans c.args.self.now c.release_all.new.self c.end_all.new.self c.release_all.ensures.later c.end_all.ensures.later

@@ -9,5 +9,4 @@ use Rattle.samoa_core.proofs.kernel.Core.shown.Goals as goal
 pub returns-clause-serial : goal.returns-clause-serial
 returns-clause-serial g c all =
     let t : Trace = c.args.self.now in
-    c.shown_now.ensures
-    ∙ ap (λ (s : State). shown (micro_at t.script c.args.micro.0).kind s) (final t c.admitted-admitted.ensures.run c.admitted-admitted.ensures.all all c.args.node.0 c.args.micro.0)
+    c.shown_now.ensures ∙ ap (λ (s : State). shown (micro_at t.script c.args.micro.0).kind s) (final t c.recall.ensures.run c.recall.ensures.all all c.args.node.0 c.args.micro.0)

@@ -1,17 +1,10 @@
-use Rattle.std.proofs.Common.{arith, ◌<◌}
-use Rattle.samoa_model.specs.declared.record.Step.{Step}
-use Rattle.samoa_invariant.specs.State as model
-use Rattle.samoa_invariant.specs.Runs.{Trace, play, state, with_step}
-use Rattle.samoa_invariant.proofs.Traces.{fewer}
-use Rattle.samoa_core.proofs.Since.{cleared-step}
+use Rattle.samoa_core.proofs.Passes.{ended, not-ended}
 use Rattle.samoa_core.proofs.kernel.Core.try_end.Goals as goal
 
-pub returns-then-can_end-clause-cleared : goal.returns-then-can_end-clause-cleared
-returns-then-can_end-clause-cleared g c = rw c.end.ensures.step (cleared-step c.args.self.now (Step.End c.args.comp) c.admitted-admitted.ensures.run)
+pub returns-then-can_end : goal.returns-then-can_end
+returns-then-can_end g c before run made =
+    ended before c.args.self.now _ c.args.comp run made (c.can_end.ensures.0 c.if-can_end.true) c.end.ensures
 
-pub returns-then-can_end-clause-not_more : goal.returns-then-can_end-clause-not_more
-returns-then-can_end-clause-not_more g c =
-    let t : Trace = c.args.self.now in
-    let less : model.left (play t) (state (with_step t (Step.End c.args.comp))) < model.left (play t) (state t) =
-    fewer t (Step.End c.args.comp) c.admitted-admitted.ensures.run tt (c.can_end.ensures.due c.if-can_end.true) in
-    rw c.end.ensures.step (omega (arith, less))
+pub returns-else-can_end : goal.returns-else-can_end
+returns-else-can_end g c before run made =
+    not-ended before c.args.self.now c.args.comp made (λ due. let yes = c.can_end.ensures.1 due in let no = c.if-can_end.false in cc)

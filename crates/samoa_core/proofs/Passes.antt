@@ -1,0 +1,143 @@
+-- What the scans find, and how far their passes have come.
+use Rattle.std.proofs.Common.{arith, ◌≡◌, ◌≢◌, ◌⊎◌, inl, inr, ◌↔◌, ℕ, suc, ◌+◌, ◌-◌, ◌<◌, ◌≤◌, refl, sym, ap, subst, ◌∙◌, List, [], ◌∷◌, map, length, Bool, true, false}
+use Rattle.samoa_model.specs.Allowed.{weight}
+use Rattle.samoa_model.specs.Paths.{MayRelease, handlers_by}
+use Rattle.samoa_model.specs.Scripts.{Table}
+use Rattle.samoa_model.specs.declared.ids.HandlerId.{HandlerId}
+use Rattle.samoa_model.specs.declared.record.Step.{Step}
+use Rattle.samoa_model.specs.declared.script.Decl.{Decl}
+use Rattle.samoa_serial.specs.declared.call.Active.{Active}
+use Rattle.samoa_serial.specs.Calls.{Computation}
+use Rattle.samoa_invariant.specs.Inv.{Invariant}
+use Rattle.samoa_invariant.specs.Play.{IsIdle, Play, version}
+use Rattle.samoa_invariant.specs.State as model
+use Rattle.samoa_invariant.specs.Runs.{IsDue, IsRun, Trace, ext_at, play, state, with_step}
+use Rattle.samoa_invariant.specs.Settling.{EndsAll, EndsBefore, ReleasesAll, ReleasesBefore, ReleasesOf}
+use Rattle.samoa_invariant.proofs.Ends.{idle_is_whole}
+use Rattle.samoa_invariant.proofs.Making.{due-admitted, due-open, end-admitted, ends_before-all, ends_before-make, ends_before-none, ends_before-skip, releases_before-all, releases_before-make, releases_before-none, releases_of-make, releases_of-none, releases_of-skip}
+use Rattle.samoa_invariant.proofs.Slots.{turn_declares}
+use Rattle.samoa_invariant.proofs.Traces.{invariant}
+use Rattle.samoa_invariant.proofs.Versions.{version-own}
+use Rattle.samoa_core.specs.Forms.{waits_for_rest}
+use Rattle.samoa_core.specs.Known.{decl_number}
+use Rattle.samoa_core.specs.Since.{cleared_comps}
+use Rattle.samoa_core.specs.Sound.{IsPast, IsSound}
+use Rattle.samoa_core.proofs.Declares.{declares_known}
+
+suc_is : (n : ℕ) → suc n ≡ n + 1
+suc_is n = omega arith
+
+-- the releases of a computation, one more of which is made or not
+pub released : (before now u : Trace) (c m : ℕ) → IsRun before → ReleasesOf before now c m → IsDue now (Step.Release c m) → u ≡ with_step now (Step.Release c m) → ReleasesOf before u c (m + 1)
+released before now u c m run r due e =
+    subst (λ (x : Trace). ReleasesOf before x c (m + 1)) (sym e) (subst (λ (n : ℕ). ReleasesOf before (with_step now (Step.Release c m)) c n) (suc_is m) (releases_of-make before now c m run r due))
+
+pub not-released : (before now : Trace) (c m : ℕ) → ReleasesOf before now c m → (IsDue now (Step.Release c m) → ⊥) → ReleasesOf before now c (m + 1)
+not-released before now c m r none =
+    releases_of-skip before now c m (m + 1) r (omega arith)
+    (λ p from below due. let here : p ≡ m = omega (arith, from, below) in none (subst (λ (q : ℕ). IsDue now (Step.Release c q)) here due))
+
+pub none-released : (t : Trace) (c n : ℕ) → ((p : ℕ) → IsDue t (Step.Release c p) → ⊥) → ReleasesOf t t c n
+none-released t c n none = releases_of-skip t t c 0 n (releases_of-none t c) (omega arith) (λ p from below. none p)
+
+-- what is released is a microprotocol of the stack
+pub due-within : (t : Trace) (c p : ℕ) → IsSound t → IsDue t (Step.Release c p) → p < length t.script.micros
+due-within t c p sound due =
+    declares_known t.script sound.in_range (decl_number t.script (ext_at t.exts (c - 1))) p (turn_declares (play t) (state t) (c - 1) p (invariant t sound.run) due.enabled.turn)
+
+-- a pass of releases begins, goes on to the next computation, and ends
+pub pass-begins : (t : Trace) → IsSound t → ReleasesBefore t t (cleared_comps t + 1)
+pass-begins t sound =
+    releases_before-none t (cleared_comps t + 1)
+    (λ j p lt due. let first : 0 < j = due.number in due-open t j p sound.run due (sound.past (j - 1) (omega (arith, lt, first))))
+
+pub pass-goes_on : (t u v : Trace) (c n : ℕ) → IsRun t → IsSound v → n ≡ length v.script.micros → ReleasesBefore t u c → ReleasesOf u v c n → ReleasesBefore t v (c + 1)
+pass-goes_on t u v c n run sound all before of =
+    subst (λ (k : ℕ). ReleasesBefore t v k) (suc_is c)
+    (releases_before-make t u v c n run before of (λ p le due. let lt : p < length v.script.micros = due-within v c p sound due in omega (arith, le, lt, all)))
+
+pub pass-ends : (t u : Trace) (n : ℕ) → IsSound u → length u.exts ≤ n → ReleasesBefore t u (n + 1) → ReleasesAll t u
+pass-ends t u n sound le before =
+    releases_before-all t u (n + 1) before
+    (λ j p from due. let count : j ≤ (state u).count = (due-admitted u j p due).1 in let all : (state u).count ≡ length u.exts = sound.all in omega (arith, from, count, all, le))
+
+-- the same of ends
+pub ends-begin : (t : Trace) → IsSound t → EndsBefore t t (cleared_comps t + 1)
+ends-begin t sound = ends_before-none t (cleared_comps t + 1) (λ j lt due. unended j lt due)
+  where
+    unended : (j : ℕ) → j < cleared_comps t + 1 → IsDue t (Step.End j) → ⊥
+    unended j lt due =
+        let first : 0 < j = due.number in
+        let ended : (state t).ended (j - 1) ≡ true = sound.past (j - 1) (omega (arith, lt, first)) in
+        let not_ended : (state t).ended (j - 1) ≡ false = due.enabled.not_ended in
+        cc
+
+pub ended : (before now u : Trace) (c : ℕ) → IsRun before → EndsBefore before now c → IsDue now (Step.End c) → u ≡ with_step now (Step.End c) → EndsBefore before u (c + 1)
+ended before now u c run r due e =
+    subst (λ (x : Trace). EndsBefore before x (c + 1)) (sym e) (subst (λ (n : ℕ). EndsBefore before (with_step now (Step.End c)) n) (suc_is c) (ends_before-make before now c run r due))
+
+pub not-ended : (before now : Trace) (c : ℕ) → EndsBefore before now c → (IsDue now (Step.End c) → ⊥) → EndsBefore before now (c + 1)
+not-ended before now c r none =
+    ends_before-skip before now c (c + 1) r (omega arith)
+    (λ j from below due. let here : j ≡ c = omega (arith, from, below) in none (subst (λ (k : ℕ). IsDue now (Step.End k)) here due))
+
+pub ends-end : (t u : Trace) (n : ℕ) → IsSound u → length u.exts ≤ n → EndsBefore t u (n + 1) → EndsAll t u
+ends-end t u n sound le before =
+    ends_before-all t u (n + 1) before
+    (λ j from due. let count : j ≤ (state u).count = (end-admitted u j due).1 in let all : (state u).count ≡ length u.exts = sound.all in omega (arith, from, count, all, le))
+
+-- under a set and a bound, nothing is left where a release is due
+none_active : (xs : List Active) → (let hs : List HandlerId = map (λ a. a.call.handler) xs in hs) ≡ [] → xs ≡ []
+none_active [] e = refl
+none_active (x ∷ xs) e = cc
+
+waits-idle : (t : Trace) (k : ℕ) (d : Decl) (table : Table) (p : ℕ) → IsRun t → k < (state t).count → waits_for_rest d ≡ true
+    → MayRelease d (map (λ a. a.call.handler) ((state t).comp k).active) (handlers_by table (map (λ w. w.event) ((state t).comp k).waiting)) p → IsIdle ((state t).comp k)
+waits-idle t k d table p run lt waits may = idle (none_active ((state t).comp k).active (active d waits may))
+  where
+    active : (e : Decl) → waits_for_rest e ≡ true
+        → MayRelease e (map (λ a. a.call.handler) ((state t).comp k).active) (handlers_by table (map (λ w. w.event) ((state t).comp k).waiting)) p
+        → map (λ a. a.call.handler) ((state t).comp k).active ≡ []
+    active (Decl.Set micros) waits may = may.none_active
+    active (Decl.Bound bounds) waits may = may.none_active
+    active (Decl.Route vertices roots edges) waits may = cc
+
+    idle : ((state t).comp k).active ≡ [] → IsIdle ((state t).comp k)
+    idle none = record { active = none; waiting = ap (λ (c : Computation). c.waiting) (idle_is_whole (play t) (state t) k (invariant t run) lt none) }
+
+-- a release is due only of what hasn't ended, and of which nothing is left if its declaration waits for the rest
+pub due-not_ended : (t : Trace) (c p : ℕ) → IsRun t → IsDue t (Step.Release c p) → (state t).ended (c - 1) ≢ true
+due-not_ended = due-open
+
+pub due-idle : (t : Trace) (c p : ℕ) → IsRun t → waits_for_rest ((play t).decl (c - 1)) ≡ true → IsDue t (Step.Release c p) → IsIdle ((state t).comp (c - 1))
+due-idle t c p run waits due =
+    waits-idle t (c - 1) ((play t).decl (c - 1)) ((state t).table (c - 1)) p run due.enabled.turn.admitted waits due.enabled.quiet
+
+-- a turn is as long as the weight
+pub turn-long : (t : Trace) (k p : ℕ) → IsRun t → k < (state t).count
+    → (state t).from k ((play t).node k) p + weight ((play t).decl k) p ≡ (state t).private k ((play t).node k) p
+turn-long t k p run lt =
+    let i : Invariant (play t) (state t) = invariant t run in
+    let low = i.booked.from k ((play t).node k) p lt in
+    let high = i.booked.private k ((play t).node k) p lt in
+    let sum = version-own (play t) k p in
+    omega (arith, low, high, sum)
+
+-- what is past
+pub past-test : (t : Trace) (k p low high local : ℕ) (b : Bool) → IsRun t → k < (state t).count → low ≡ (state t).from k ((play t).node k) p → high ≡ (state t).private k ((play t).node k) p
+    → local ≡ (state t).local ((play t).node k) p → (b ≡ true) ↔ ((high ≤ low) ⊎ (high ≤ local)) → (b ≡ true) ↔ IsPast (play t) (state t) k p
+past-test t k p low high local b run lt is_low is_high is_local test = ((λ yes. to (test.0 yes)), (λ past. test.1 (from past (zero_or_not (weight ((play t).decl k) p)))))
+  where
+    long : (state t).from k ((play t).node k) p + weight ((play t).decl k) p ≡ (state t).private k ((play t).node k) p
+    long = turn-long t k p run lt
+
+    zero_or_not : (n : ℕ) → (n ≡ 0) ⊎ (0 < n)
+    zero_or_not n = grind arith
+
+    to : (high ≤ low) ⊎ (high ≤ local) → IsPast (play t) (state t) k p
+    to (inl le) some = absurd (omega (arith, long, is_low, is_high, le, some))
+    to (inr le) some = omega (arith, is_high, is_local, le)
+
+    from : IsPast (play t) (state t) k p → (weight ((play t).decl k) p ≡ 0) ⊎ (0 < weight ((play t).decl k) p) → (high ≤ low) ⊎ (high ≤ local)
+    from past (inl none) = inl (omega (arith, long, is_low, is_high, none))
+    from past (inr some) = let le = past some in inr (omega (arith, is_high, is_local, le))
