@@ -25,11 +25,12 @@ use Rattle.samoa_invariant.specs.Slots.{At}
 use Rattle.samoa_invariant.specs.State as model
 use Rattle.samoa_invariant.specs.State.{home_of, left, left_of, named, shorts, sum_to, to_end}
 use Rattle.samoa_invariant.specs.Runs.{IsDue, IsRun, Trace, ext_at, no_ext, play, play_of, state, with_ext, with_step}
-use Rattle.samoa_invariant.proofs.Agrees.{turns-agree}
-use Rattle.samoa_invariant.proofs.Room.{admitted_left, turns-most}
-use Rattle.samoa_invariant.proofs.Slots.{put-else, put-here}
-use Rattle.samoa_invariant.proofs.Traces.{count-few, invariant, is_run-with_ext, is_run-with_step, state-ext, state-step}
-use Rattle.samoa_invariant.proofs.Versions.{same_or_not, version-most, weight_at-else, weight_at-is}
+use Rattle.samoa_invariant.proofs.representation.Agrees.{turns-agree}
+use Rattle.samoa_invariant.proofs.measure.Room.{admitted_left, turns-most}
+use Rattle.samoa_invariant.proofs.preservation.Slots.{put-else, put-here}
+use Rattle.samoa_invariant.proofs.representation.Traces.{count-few, invariant, is_run-with_ext, is_run-with_step, state-ext, state-step}
+use Rattle.std.proofs.lemmas.Bool.{cases_eq}
+use Rattle.samoa_invariant.proofs.preservation.Versions.{version-most, weight_at-else, weight_at-is}
 use Rattle.samoa_core.specs.Admission.{admitted, last_table, raised, started, steps_of, turns_taken}
 use Rattle.samoa_core.specs.Known.{decl_number}
 use Rattle.samoa_core.specs.Later.{IsStill}
@@ -277,7 +278,7 @@ kept-admission fs ext number held promised clears_room global r kept admits is i
       admitted = omega arith;
       held = omega arith;
       within = omega arith;
-      present = λ v epoch lt last. kept.holds.present v epoch lt last ∙ sym (present_is v.0 (same_or_not v.0 (P.node k)));
+      present = λ v epoch lt last. kept.holds.present v epoch lt last ∙ sym (present_is v.0 (cases_eq v.0 (P.node k)));
       global = rw is_global (grid-raised fs.script.nodes micros ext.node.0 fs.global core.global after.global (decl_of fs.script ext).decl known.node kept.holds.global
           (λ p. ap (λ (w : ℕ). core.global ext.node.0 p + w) (weight_at-is P k ext.node.0 p (sym node) ∙ ap (λ (d : Decl). weight d p) decl))
           (λ v p ne. let none : weight_at P k v p ≡ zero = weight_at-else P k v p (λ e. ne (e ∙ node)) in omega (arith, none)));
@@ -299,7 +300,7 @@ kept-admission fs ext number held promised clears_room global r kept admits is i
       built = kept.built;
       tables = kept.tables;
       micros = kept.micros;
-      known = λ j lt. known_at j (omega (arith, lt, longer)) (same_or_not j n);
+      known = λ j lt. known_at j (omega (arith, lt, longer)) (cases_eq j n);
       is_run = is_run-with_step t1 (Step.Admit number) run1 due;
       first = kept.first ∙ (sym (cleared-ext t ext) ∙ sym (cleared-step t1 (Step.Admit number) run1));
       first_most = omega (arith, first_most, longer);

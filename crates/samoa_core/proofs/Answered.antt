@@ -9,7 +9,7 @@ use Rattle.samoa_invariant.specs.Inv.{Invariant, IsDone}
 use Rattle.samoa_invariant.specs.Play.{point}
 use Rattle.samoa_invariant.specs.State as model
 use Rattle.samoa_invariant.specs.Runs.{IsServed, Trace, cleared, ext_at, play, served_at, state, with_clear}
-use Rattle.samoa_invariant.proofs.Traces.{held_not_cleared, invariant, is_run-with_clear, served, state-clear}
+use Rattle.samoa_invariant.proofs.representation.Traces.{held_not_cleared, invariant, is_run-with_clear, served, state-clear}
 use Rattle.samoa_core.specs.Later.{IsStill}
 use Rattle.samoa_core.specs.Room.{to_come}
 use Rattle.samoa_core.specs.Since.{cleared_comps}

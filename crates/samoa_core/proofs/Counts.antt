@@ -5,8 +5,8 @@ use Rattle.samoa_model.specs.declared.script.Script.{Script}
 use Rattle.samoa_invariant.specs.Slots.{At, put_at}
 use Rattle.samoa_invariant.specs.State as model
 use Rattle.samoa_invariant.specs.State.{put, sum_to, to_end}
-use Rattle.samoa_invariant.proofs.Slots.{put-else, put-here, put_at-else, put_at-here}
-use Rattle.samoa_invariant.proofs.Versions.{same_or_not}
+use Rattle.samoa_invariant.proofs.preservation.Slots.{put-else, put-here, put_at-else, put_at-here}
+use Rattle.std.proofs.lemmas.Bool.{cases_eq}
 use Rattle.samoa_core.specs.Kept.{unended}
 use Rattle.samoa_core.specs.Places.{away_in, out_at, out_one}
 
@@ -19,7 +19,7 @@ sum-same f g (suc n) same =
 
 sum-at : (f g : ℕ → ℕ) (n k a b : ℕ) → k < n → ((j : ℕ) → j < n → j ≢ k → g j ≡ f j) → g k + a ≡ f k + b → sum_to g n + a ≡ sum_to f n + b
 sum-at f g zero k a b lt same here = absurd (omega arith)
-sum-at f g (suc n) k a b lt same here = go (same_or_not k n) (λ below. sum-at f g n k a b below (λ j less ne. same j (omega arith) ne) here)
+sum-at f g (suc n) k a b lt same here = go (cases_eq k n) (λ below. sum-at f g n k a b below (λ j less ne. same j (omega arith) ne) here)
   where
     go : (k ≡ n) ⊎ (k ≢ n) → (k < n → sum_to g n + a ≡ sum_to f n + b) → sum_to g (suc n) + a ≡ sum_to f (suc n) + b
     go (inl e) before =
@@ -67,7 +67,7 @@ ended_is false e = absurd (omega (arith, e))
 
 all-zero : (f : ℕ → ℕ) (n k : ℕ) → sum_to f n ≡ 0 → k < n → f k ≡ 0
 all-zero f zero k e lt = absurd (omega (arith, lt))
-all-zero f (suc n) k e lt = go (same_or_not k n) (λ below. all-zero f n k (omega (arith, e)) below)
+all-zero f (suc n) k e lt = go (cases_eq k n) (λ below. all-zero f n k (omega (arith, e)) below)
   where
     go : (k ≡ n) ⊎ (k ≢ n) → (k < n → f k ≡ 0) → f k ≡ 0
     go (inl is) before = let last : f n ≡ 0 = omega (arith, e) in ap f is ∙ last

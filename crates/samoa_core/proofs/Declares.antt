@@ -12,7 +12,7 @@ use Rattle.samoa_model.specs.declared.script.Decl.{Decl}
 use Rattle.samoa_model.specs.declared.script.DeclDef.{DeclDef}
 use Rattle.samoa_model.specs.declared.script.Script.{Script}
 use Rattle.samoa_invariant.specs.State.{named}
-use Rattle.samoa_invariant.proofs.Progress.{IsIn, declared_named}
+use Rattle.samoa_invariant.proofs.progress.Progress.{IsIn, declared_named}
 
 -- what is declared is named, and what is named is of the script
 in_all : (n p : ℕ) (ps : List ℕ) → All (λ (q : ℕ). q < n) ps → IsIn p ps → p < n

@@ -11,9 +11,9 @@ use Rattle.samoa_serial.proofs.Point.{turns-after}
 use Rattle.samoa_invariant.specs.Inv.{Invariant, IsDone}
 use Rattle.samoa_invariant.specs.Play.{Play, point, rules, stood, turns, whole_of}
 use Rattle.samoa_invariant.specs.State.{AllEnded, Core, home_of, left, left_of, named, short_at, shorts, sum_to, to_end}
-use Rattle.samoa_invariant.proofs.Lefts.{home-most}
-use Rattle.samoa_invariant.proofs.Points.{point_idle}
-use Rattle.samoa_invariant.proofs.Progress.{IsIn}
+use Rattle.samoa_invariant.proofs.measure.Lefts.{home-most}
+use Rattle.samoa_invariant.proofs.refinement.Points.{point_idle}
+use Rattle.samoa_invariant.proofs.progress.Progress.{IsIn}
 use Rattle.samoa_core.specs.Room.{spare_of, to_come}
 use Rattle.samoa_core.proofs.Declares.{named_declared}
 use Rattle.samoa_core.proofs.Toll.{spare-most, sum-le}

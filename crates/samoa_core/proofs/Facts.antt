@@ -1,5 +1,5 @@
 -- What is known of a core by its invariant.
-use Rattle.std.proofs.Common.{arith, ◌≡◌, ◌≢◌, ◌⊎◌, inl, inr, ℕ, ◌-◌, ◌<◌, ◌≤◌, refl, sym, ap, subst, ◌∙◌, List, [], ◌∷◌, length, true, false, Option, Some, None}
+use Rattle.std.proofs.Common.{arith, ◌≡◌, ◌≢◌, ◌⊎◌, inl, inr, ◌↔◌, ℕ, ◌-◌, ◌<◌, ◌≤◌, refl, sym, ap, subst, ◌∙◌, List, [], ◌∷◌, length, Bool, true, false, not, Option, Some, None}
 use Rattle.std.specs.Prelude.{option_map}
 use Rattle.std.specs.Option.{IfSome}
 use Rattle.samoa_model.specs.Allowed.{weight}
@@ -16,10 +16,10 @@ use Rattle.samoa_invariant.specs.Play.{Play, point}
 use Rattle.samoa_invariant.specs.Slots.{put_at}
 use Rattle.samoa_invariant.specs.State as model
 use Rattle.samoa_invariant.specs.Runs.{IsDue, IsRun, Trace, ext_at, play, state, with_step}
-use Rattle.samoa_invariant.proofs.Accepts.{meets_declared}
-use Rattle.samoa_invariant.proofs.Progress.{ended_stays}
-use Rattle.samoa_invariant.proofs.Slots.{put_at-here}
-use Rattle.samoa_invariant.proofs.Traces.{count-few, invariant, state-step}
+use Rattle.samoa_invariant.proofs.preservation.Accepts.{meets_declared}
+use Rattle.samoa_invariant.proofs.progress.Progress.{ended_stays}
+use Rattle.samoa_invariant.proofs.preservation.Slots.{put_at-here}
+use Rattle.samoa_invariant.proofs.representation.Traces.{count-few, invariant, state-step}
 use Rattle.samoa_core.specs.Known.{decl_number}
 use Rattle.samoa_core.specs.Places.{seen_in}
 use Rattle.samoa_core.specs.Since.{cleared_comps}
@@ -203,3 +203,26 @@ moments-within t k sound lt = go (next_moment ((state t).comp k)) refl
     go : (step : Option (MicroId × Moment)) → next_moment ((state t).comp k) ≡ step → IfSome step (λ (s : MicroId × Moment). s.0.0 < length t.script.micros)
     go None e = tt
     go (Some step) e = let all : (state t).count ≡ length t.exts = sound.all in moment-within t k step sound (omega (arith, lt, all)) e
+
+-- what is next has its turn and is home: it may begin exactly where the core isn't stopped
+pub ready-is : (t : Trace) (comp : ℕ) (step : MicroId × Moment) (stopped : Bool) → IsRun t → 0 < comp → next_moment ((state t).comp (comp - 1)) ≡ Some step
+    → model.HasTurn (play t) (state t) (comp - 1) step.0.0 → (state t).out ((play t).node (comp - 1)) step.0.0 ≡ None → stopped ≡ (state t).stopped
+    → (not stopped ≡ true) ↔ ((micro : ℕ) × IsDue t (Step.Enter comp micro))
+ready-is t comp step stopped run first next turn home is = (
+  (λ yes. (step.0.0, record { number = first; enabled = begins (runs stopped refl yes) })),
+  (λ due. let still : (state t).stopped ≡ false = due.1.enabled.running in ap not (is ∙ still)),
+)
+  where
+    runs : (b : Bool) → stopped ≡ b → not stopped ≡ true → (state t).stopped ≡ false
+    runs true e yes = cc
+    runs false e yes = sym is ∙ e
+
+    call : IsCallOf ((state t).comp (comp - 1)) step
+    call = call_of ((state t).comp (comp - 1)) step next
+
+    begins : (state t).stopped ≡ false → model.CanEnter (play t) (state t) (comp - 1) step.0.0
+    begins running =
+        let at : call.call.handler.micro.0 ≡ step.0.0 = ap (λ (m : MicroId). m.0) call.is_at in
+        subst (λ (p : ℕ). model.CanEnter (play t) (state t) (comp - 1) p) at
+        (enter-due t (comp - 1) call.call step.1 run call.next (subst (λ (p : ℕ). model.HasTurn (play t) (state t) (comp - 1) p) (sym at) turn)
+        (subst (λ (p : ℕ). (state t).out ((play t).node (comp - 1)) p ≡ None) (sym at) home) running)

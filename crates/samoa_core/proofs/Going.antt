@@ -27,10 +27,10 @@ use Rattle.samoa_invariant.specs.Slots.{put_at}
 use Rattle.samoa_invariant.specs.State as model
 use Rattle.samoa_invariant.specs.State.{put}
 use Rattle.samoa_invariant.specs.Runs.{IsDue, Trace, after_step as stepped, ext_at, play, state}
-use Rattle.samoa_invariant.proofs.Bounds.{head_is}
-use Rattle.samoa_invariant.proofs.Slots.{put-else, put-here, put_at-else, put_at-here}
-use Rattle.samoa_invariant.proofs.Traces.{invariant}
-use Rattle.samoa_invariant.proofs.Versions.{same_or_not}
+use Rattle.samoa_invariant.proofs.preservation.Bounds.{head_is}
+use Rattle.samoa_invariant.proofs.preservation.Slots.{put-else, put-here, put_at-else, put_at-here}
+use Rattle.samoa_invariant.proofs.representation.Traces.{invariant}
+use Rattle.std.proofs.lemmas.Bool.{cases_eq}
 use Rattle.samoa_versions.specs.Counters.{Counters, IsTurn}
 use Rattle.samoa_core.specs.Forms.{risen}
 use Rattle.samoa_core.specs.Grids.{Grid}
@@ -510,3 +510,8 @@ pub kept-ended : (fs : Fields) (comp : ℕ) (running : List Running) → Kept fs
 kept-ended fs comp running kept due since is =
     let item = item-there fs comp kept since due.enabled.admitted in
     rw (is item.0 item.1) (kept-end fs comp item.0 kept due since item.1)
+
+pub end-there : (fs : Fields) (comp : ℕ) → Kept fs → IsDue (trace_of fs) (Step.End comp) → cleared_comps (trace_of fs) < comp → comp - 1 - fs.first < length fs.running
+end-there fs comp kept due since =
+    let below : comp - 1 < length fs.exts = is_there fs comp kept due.enabled.admitted in
+    place-within fs comp kept since (omega (arith, below))

@@ -4,7 +4,7 @@ use Rattle.std.specs.Prelude.{slice_get}
 use Rattle.std.proofs.lemmas.Nat.{mul-add-lt, same_from_place}
 use Rattle.std.proofs.lemmas.List.{length-replicate}
 use Rattle.samoa_invariant.specs.Slots.{At, put_at}
-use Rattle.samoa_invariant.proofs.Slots.{put_at-else, put_at-here}
+use Rattle.samoa_invariant.proofs.preservation.Slots.{put_at-else, put_at-here}
 use Rattle.samoa_core.specs.Grids.{Grid, Row}
 
 set-same : {A : Type 0} (xs : List A) (i : ℕ) (x : A) → i < length xs → slice_get (set xs i x) i ≡ Some x
@@ -24,18 +24,18 @@ length-set [] i x = refl
 length-set (y ∷ ys) zero x = refl
 length-set (y ∷ ys) (suc i) x = ap suc (length-set ys i x)
 
-pub same_or_not : (a b : ℕ) → (a ≡ b) ⊎ (a ≢ b)
-same_or_not zero zero = inl refl
-same_or_not zero (suc b) = inr (λ e. omega (arith, e))
-same_or_not (suc a) zero = inr (λ e. omega (arith, e))
-same_or_not (suc a) (suc b) = go (same_or_not a b)
+pub cases_eq : (a b : ℕ) → (a ≡ b) ⊎ (a ≢ b)
+cases_eq zero zero = inl refl
+cases_eq zero (suc b) = inr (λ e. omega (arith, e))
+cases_eq (suc a) zero = inr (λ e. omega (arith, e))
+cases_eq (suc a) (suc b) = go (cases_eq a b)
   where
     go : (a ≡ b) ⊎ (a ≢ b) → (suc a ≡ suc b) ⊎ (suc a ≢ suc b)
     go (inl e) = inl (ap suc e)
     go (inr ne) = inr (λ e. ne (omega (arith, e)))
 
 pub cell_or_not : (i v j p : ℕ) → ((i ≡ v) × (j ≡ p)) ⊎ ((i ≢ v) ⊎ (j ≢ p))
-cell_or_not i v j p = go (same_or_not i v) (same_or_not j p)
+cell_or_not i v j p = go (cases_eq i v) (cases_eq j p)
   where
     go : (i ≡ v) ⊎ (i ≢ v) → (j ≡ p) ⊎ (j ≢ p) → ((i ≡ v) × (j ≡ p)) ⊎ ((i ≢ v) ⊎ (j ≢ p))
     go (inl e) (inl f) = inl (e, f)
@@ -92,7 +92,7 @@ pub grid-row : {A : Type 0} (rows columns : ℕ) (items row : List A) (f : ℕ �
 grid-row {A = A} rows columns items row f grid as_long each =
     record {
       size = (let e : length items ≡ rows * columns = grid.size in let l = length-append items row in grind arith);
-      value = λ i j ri cj. go i j ri cj (same_or_not i rows);
+      value = λ i j ri cj. go i j ri cj (cases_eq i rows);
     }
   where
     go : (i j : ℕ) → i < suc rows → j < columns → (i ≡ rows) ⊎ (i ≢ rows) → slice_get (items ++ row) (i * columns + j) ≡ Some (f i j)

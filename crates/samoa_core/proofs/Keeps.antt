@@ -15,8 +15,8 @@ use Rattle.samoa_calls.specs.Handed.{AreNamed}
 use Rattle.samoa_serial.specs.Calls.{Computation}
 use Rattle.samoa_invariant.specs.State as model
 use Rattle.samoa_invariant.specs.Runs.{IsDue, IsRun, Trace, after_step, ext_at, model_step, opening_trace, play, state}
-use Rattle.samoa_invariant.proofs.Scripted.{get_is}
-use Rattle.samoa_invariant.proofs.Traces.{invariant, is_run-with_step, opening_is_run, state-step}
+use Rattle.samoa_invariant.proofs.representation.Scripted.{get_is}
+use Rattle.samoa_invariant.proofs.representation.Traces.{invariant, is_run-with_step, opening_is_run, state-step}
 use Rattle.samoa_core.specs.Grids.{Grid, Row}
 use Rattle.samoa_core.specs.Known.{decl_number}
 use Rattle.samoa_core.specs.Places.{slot_in}

@@ -1,5 +1,7 @@
 -- What the scans find, and how far their passes have come.
-use Rattle.std.proofs.Common.{arith, ◌≡◌, ◌≢◌, ◌⊎◌, inl, inr, ◌↔◌, ℕ, suc, ◌+◌, ◌-◌, ◌<◌, ◌≤◌, refl, sym, ap, subst, ◌∙◌, List, [], ◌∷◌, map, length, Bool, true, false}
+use Rattle.std.proofs.Common.{arith, ◌≡◌, ◌≢◌, ◌⊎◌, inl, inr, ◌↔◌, ℕ, suc, ◌+◌, ◌-◌, ◌<◌, ◌≤◌, refl, sym, ap, subst, ◌∙◌, List, [], ◌∷◌, map, length, Bool, true, false, not, Some}
+use Rattle.std.specs.Prelude.{slice_get}
+use Rattle.samoa_model.specs.declared.ids.NodeId.{NodeId}
 use Rattle.samoa_model.specs.Allowed.{weight}
 use Rattle.samoa_model.specs.Paths.{MayRelease, handlers_by}
 use Rattle.samoa_model.specs.Scripts.{Table}
@@ -13,13 +15,16 @@ use Rattle.samoa_invariant.specs.Play.{IsIdle, Play, version}
 use Rattle.samoa_invariant.specs.State as model
 use Rattle.samoa_invariant.specs.Runs.{IsDue, IsRun, Trace, ext_at, play, state, with_step}
 use Rattle.samoa_invariant.specs.Settling.{EndsAll, EndsBefore, ReleasesAll, ReleasesBefore, ReleasesOf}
-use Rattle.samoa_invariant.proofs.Ends.{idle_is_whole}
-use Rattle.samoa_invariant.proofs.Making.{due-admitted, due-open, end-admitted, ends_before-all, ends_before-make, ends_before-none, ends_before-skip, releases_before-all, releases_before-make, releases_before-none, releases_of-make, releases_of-none, releases_of-skip}
-use Rattle.samoa_invariant.proofs.Slots.{turn_declares}
-use Rattle.samoa_invariant.proofs.Traces.{invariant}
-use Rattle.samoa_invariant.proofs.Versions.{version-own}
+use Rattle.samoa_invariant.proofs.refinement.Ends.{idle_is_whole}
+use Rattle.samoa_invariant.proofs.settling.Making.{due-admitted, due-open, end-admitted, ends_before-all, ends_before-make, ends_before-none, ends_before-skip, releases_before-all, releases_before-make, releases_before-none, releases_of-make, releases_of-none, releases_of-skip}
+use Rattle.samoa_invariant.proofs.preservation.Slots.{turn_declares}
+use Rattle.samoa_invariant.proofs.representation.Traces.{invariant}
+use Rattle.samoa_invariant.proofs.preservation.Versions.{version-own}
 use Rattle.samoa_core.specs.Forms.{waits_for_rest}
 use Rattle.samoa_core.specs.Known.{decl_number}
+use Rattle.samoa_core.specs.Running.{IsRunning, turn_of}
+use Rattle.samoa_core.specs.declared.running.Interval.{Interval}
+use Rattle.samoa_core.specs.declared.running.Running.{Running}
 use Rattle.samoa_core.specs.Since.{cleared_comps}
 use Rattle.samoa_core.specs.Sound.{IsPast, IsSound}
 use Rattle.samoa_core.proofs.Declares.{declares_known}
@@ -141,3 +146,20 @@ past-test t k p low high local b run lt is_low is_high is_local test = ((λ yes.
     from : IsPast (play t) (state t) k p → (weight ((play t).decl k) p ≡ 0) ⊎ (0 < weight ((play t).decl k) p) → (high ≤ low) ⊎ (high ≤ local)
     from past (inl none) = inl (omega (arith, long, is_low, is_high, none))
     from past (inr some) = let le = past some in inr (omega (arith, is_high, is_local, le))
+
+pub past-at : (t : Trace) (k p : ℕ) (r : Running) (turn : Interval) (local : ℕ) (b : Bool) → IsSound t → IsRunning t.script t.exts (state t) k r → p < length t.script.micros
+    → slice_get r.turns.items p ≡ Some turn → local ≡ (state t).local r.node.0 p → (b ≡ true) ↔ ((turn.to ≤ turn.from) ⊎ (turn.to ≤ local)) → (b ≡ true) ↔ IsPast (play t) (state t) k p
+past-at t k p r turn local b sound is below there is_local test =
+    let same : Some turn ≡ Some (turn_of (state t) k (ext_at t.exts k).node.0 p) = sym there ∙ is.turns.value p below in
+    let here : turn ≡ turn_of (state t) k (ext_at t.exts k).node.0 p = cc in
+    past-test t k p turn.from turn.to local b sound.run is.admitted (ap (λ (i : Interval). i.from) here) (ap (λ (i : Interval). i.to) here)
+    (is_local ∙ ap (λ (n : NodeId). (state t).local n.0 p) is.node) test
+
+-- where something is left, a declaration of whose releases one is due doesn't wait for the rest
+pub not-waiting : (t : Trace) (c p : ℕ) (idle waits : Bool) → IsRun t → IsDue t (Step.Release c p) → (idle ≡ true) ↔ IsIdle ((state t).comp (c - 1)) → idle ≡ false
+    → waits ≡ waits_for_rest ((play t).decl (c - 1)) → not waits ≡ true
+not-waiting t c p idle waits run due test busy is = go waits refl
+  where
+    go : (b : Bool) → waits ≡ b → not waits ≡ true
+    go true e = let yes : idle ≡ true = test.1 (due-idle t c p run (sym is ∙ e) due) in cc
+    go false e = ap not e

@@ -9,8 +9,8 @@ use Rattle.samoa_serial.specs.declared.call.Call.{Call}
 use Rattle.samoa_invariant.specs.Play.{is_bound}
 use Rattle.samoa_invariant.specs.Slots.{At, put_at}
 use Rattle.samoa_invariant.specs.State.{raise}
-use Rattle.samoa_invariant.proofs.Scripted.{get_is}
-use Rattle.samoa_invariant.proofs.Slots.{put_at-else, put_at-here, slot_or_not}
+use Rattle.samoa_invariant.proofs.representation.Scripted.{get_is}
+use Rattle.samoa_invariant.proofs.preservation.Slots.{put_at-else, put_at-here, slot_or_not}
 use Rattle.samoa_core.specs.Forms.{raised_if, raises, risen}
 use Rattle.samoa_core.specs.Grids.{Grid}
 use Rattle.samoa_core.proofs.Grids.{grid-put, grid-same}

@@ -4,9 +4,9 @@ use Rattle.std.specs.Prelude.{slice_get}
 use Rattle.samoa_model.specs.Allowed.{weight}
 use Rattle.samoa_model.specs.declared.script.Decl.{Decl}
 use Rattle.samoa_invariant.specs.Slots.{At, put_at}
-use Rattle.samoa_invariant.proofs.Scripted.{get_is}
-use Rattle.samoa_invariant.proofs.Slots.{put_at-else, put_at-here}
-use Rattle.samoa_invariant.proofs.Versions.{same_or_not}
+use Rattle.samoa_invariant.proofs.representation.Scripted.{get_is}
+use Rattle.samoa_invariant.proofs.preservation.Slots.{put_at-else, put_at-here}
+use Rattle.std.proofs.lemmas.Bool.{cases_eq}
 use Rattle.samoa_core.specs.Admission.{raised, turns_taken, version_after}
 use Rattle.samoa_core.specs.Grids.{Grid}
 use Rattle.samoa_core.specs.declared.running.Interval.{Interval}
@@ -26,7 +26,7 @@ risen-above f decl v (suc n) p le =
 risen-below : (f : At ℕ) (decl : Decl) (v n p : ℕ) → p < n → risen f decl v n v p ≡ f v p + weight decl p
 unfolding risen
 risen-below f decl v zero p lt = absurd (omega arith)
-risen-below f decl v (suc n) p lt = go (same_or_not p n) (λ below. risen-below f decl v n p below)
+risen-below f decl v (suc n) p lt = go (cases_eq p n) (λ below. risen-below f decl v n p below)
   where
     go : (p ≡ n) ⊎ (p ≢ n) → (p < n → risen f decl v n v p ≡ f v p + weight decl p)
         → put_at (risen f decl v n) v n (risen f decl v n v n + weight decl n) v p ≡ f v p + weight decl p
@@ -62,7 +62,7 @@ pub grid-raised : (rows columns v : ℕ) (items : List ℕ) (f g : At ℕ) (decl
     → Grid rows columns (raised decl columns v items columns) g
 grid-raised rows columns v items f g decl lt grid mine others =
     let all : Grid rows columns (raised decl columns v items columns) (risen f decl v columns) = grid-risen rows columns v columns items f decl lt (omega arith) grid in
-    record { size = all.size; value = λ i p ri cp. all.value i p ri cp ∙ ap (λ (x : ℕ). Some x) (is i p cp (same_or_not i v)) }
+    record { size = all.size; value = λ i p ri cp. all.value i p ri cp ∙ ap (λ (x : ℕ). Some x) (is i p cp (cases_eq i v)) }
   where
     is : (i p : ℕ) → p < columns → (i ≡ v) ⊎ (i ≢ v) → risen f decl v columns i p ≡ g i p
     is i p cp (inl e) =
@@ -92,7 +92,7 @@ pub taken-at : (rows columns v n p : ℕ) (items : List ℕ) (f : At ℕ) (decl 
     → slice_get (turns_taken decl columns v items n) p ≡ Some (record { from = f v p; to = f v p + weight decl p })
 unfolding last_turn risen_turn
 taken-at rows columns v zero p items f decl lt le grid below = absurd (omega arith)
-taken-at rows columns v (suc n) p items f decl lt le grid below = go (same_or_not p n) (λ less. taken-at rows columns v n p items f decl lt (omega arith) grid less)
+taken-at rows columns v (suc n) p items f decl lt le grid below = go (cases_eq p n) (λ less. taken-at rows columns v n p items f decl lt (omega arith) grid less)
   where
     long : length (turns_taken decl columns v items n) ≡ n
     long = length-taken decl columns v items n

@@ -8,9 +8,10 @@ use Rattle.samoa_invariant.specs.Slots.{put_at}
 use Rattle.samoa_invariant.specs.Play.{Play, point}
 use Rattle.samoa_invariant.specs.Inv.{Invariant, IsOutRightly}
 use Rattle.samoa_invariant.specs.State.{CanLeave, Core, IsEnabled, IsNextAt, Step, abandon, abandon_next, enter, home_of, leave_at, leave_next, left, left_of, made_by, not_out_by, sum_to}
-use Rattle.samoa_invariant.proofs.Lefts.{step_fewer}
-use Rattle.samoa_invariant.proofs.Slots.{put-else, put_at-else, put_at-here, slot_or_not}
-use Rattle.samoa_invariant.proofs.Versions.{if_else, if_here, same_or_not}
+use Rattle.samoa_invariant.proofs.measure.Lefts.{step_fewer}
+use Rattle.samoa_invariant.proofs.preservation.Slots.{put-else, put_at-else, put_at-here, slot_or_not}
+use Rattle.std.proofs.lemmas.Bool.{cases_eq}
+use Rattle.samoa_invariant.proofs.preservation.Versions.{if_else, if_here}
 use Rattle.samoa_core.specs.Room.{spare_of, spare_when, to_come}
 
 pub sum-le : (f g : ℕ → ℕ) (n : ℕ) → ((j : ℕ) → j < n → f j ≤ g j) → sum_to f n ≤ sum_to g n
@@ -22,7 +23,7 @@ sum-le f g (suc n) h =
 
 sum-less : (f g : ℕ → ℕ) (n k : ℕ) → k < n → ((j : ℕ) → j < n → f j ≤ g j) → f k + 1 ≤ g k → sum_to f n + 1 ≤ sum_to g n
 sum-less f g zero k lt h less = absurd (omega arith)
-sum-less f g (suc n) k lt h less = go (same_or_not k n) (λ below. sum-less f g n k below (λ j lt. h j (omega arith)) less)
+sum-less f g (suc n) k lt h less = go (cases_eq k n) (λ below. sum-less f g n k below (λ j lt. h j (omega arith)) less)
   where
     here : f n ≤ g n
     here = h n (omega arith)
@@ -38,7 +39,7 @@ sum-less f g (suc n) k lt h less = go (same_or_not k n) (λ below. sum-less f g 
 
 sum-more : (f g : ℕ → ℕ) (n k : ℕ) → ((j : ℕ) → j < n → j ≢ k → f j ≤ g j) → f k ≤ g k + 1 → sum_to f n ≤ sum_to g n + 1
 sum-more f g zero k h more = omega arith
-sum-more f g (suc n) k h more = go (same_or_not k n) (sum-more f g n k (λ j lt no. h j (omega arith) no) more)
+sum-more f g (suc n) k h more = go (cases_eq k n) (sum-more f g n k (λ j lt no. h j (omega arith) no) more)
   where
     go : (k ≡ n) ⊎ (k ≢ n) → sum_to f n ≤ sum_to g n + 1 → sum_to f (suc n) ≤ sum_to g (suc n) + 1
     go (inl e) ih =
@@ -90,7 +91,7 @@ same P core k p j ne is_out (Some next) = go (slot_or_not (P.node j) (P.node k) 
 
 spare-leave : (P : Play) (core : Core) (k : ℕ) (c : Call) (m : Moment) → next_step (core.comp k) ≡ Some (c, m)
     → core.out (P.node k) c.handler.micro.0 ≡ Some k → (j : ℕ) → spare_of P (leave_at P core k c m) j ≤ spare_of P core j
-spare-leave P core k c m next is_out j = go (same_or_not j k)
+spare-leave P core k c m next is_out j = go (cases_eq j k)
   where
     new : Core
     new = leave_at P core k c m
@@ -157,7 +158,7 @@ toll-abandon P core k c m lt next is_out =
         go false = omega (arith, home_mine)
 
     spare : (j : ℕ) → spare_of P (abandon P core k c.handler.micro.0) j ≤ spare_of P core j
-    spare j = go (same_or_not j k)
+    spare j = go (cases_eq j k)
       where
         go : (j ≡ k) ⊎ (j ≢ k) → spare_of P (abandon P core k c.handler.micro.0) j ≤ spare_of P core j
         go (inl e) = subst (λ (i : ℕ). spare_of P (abandon P core k c.handler.micro.0) i ≤ spare_of P core i) (sym e) (omega (arith, spare_mine))

@@ -6,9 +6,9 @@ use Rattle.samoa_invariant.specs.Inv.{Invariant, IsOutRightly}
 use Rattle.samoa_invariant.specs.Play.{Play, version}
 use Rattle.samoa_invariant.specs.State as model
 use Rattle.samoa_invariant.specs.Runs.{Trace, play, state}
-use Rattle.samoa_invariant.proofs.Scripted.{get_is}
-use Rattle.samoa_invariant.proofs.Traces.{invariant}
-use Rattle.samoa_invariant.proofs.Versions.{version-mono, version-own}
+use Rattle.samoa_invariant.proofs.representation.Scripted.{get_is}
+use Rattle.samoa_invariant.proofs.representation.Traces.{invariant}
+use Rattle.samoa_invariant.proofs.preservation.Versions.{version-mono, version-own}
 use Rattle.samoa_core.specs.Kept.{Fields, Kept, trace_of}
 use Rattle.samoa_core.proofs.Grids.{grid-within}
 

@@ -231,8 +231,8 @@ impl<B: Micro> Core<B> {
     {
         self.recall();
         let running = self.running(comp);
-        let turn = running.turn(micro);
-        turn.to <= turn.from || turn.to <= self.local(running.node, micro)
+        let local = self.local(running.node, micro);
+        running.turn(micro).is_over(local)
     }
 
     pub(crate) fn has_ended(&self, comp: u32) -> bool

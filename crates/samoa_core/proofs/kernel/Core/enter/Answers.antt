@@ -3,7 +3,7 @@ use Rattle.samoa_model.specs.declared.handler.Moment.{Moment}
 use Rattle.samoa_model.specs.declared.ids.MicroId.{MicroId}
 use Rattle.samoa_model.specs.declared.record.Step.{Step}
 use Rattle.samoa_invariant.specs.Runs.{state}
-use Rattle.samoa_invariant.proofs.Traces.{fewer}
+use Rattle.samoa_invariant.proofs.representation.Traces.{fewer}
 use Rattle.samoa_core.proofs.Facts.{IsCallOf, away-entered, call_of, due-since}
 use Rattle.samoa_core.proofs.Later.{later-step}
 use Rattle.samoa_core.proofs.kernel.Core.enter.Goals as goal

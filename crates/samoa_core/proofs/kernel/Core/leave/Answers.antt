@@ -1,5 +1,5 @@
 use Rattle.samoa_model.specs.declared.record.Step.{Step}
-use Rattle.samoa_invariant.proofs.Traces.{fewer}
+use Rattle.samoa_invariant.proofs.representation.Traces.{fewer}
 use Rattle.samoa_core.proofs.Facts.{back}
 use Rattle.samoa_core.proofs.Later.{later-step}
 use Rattle.samoa_core.proofs.kernel.Core.leave.Goals as goal

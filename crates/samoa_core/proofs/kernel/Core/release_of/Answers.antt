@@ -1,7 +1,7 @@
 use Rattle.std.proofs.Common.{arith, ◌≡◌, ◌≤◌, ◌<◌, ◌∙◌, ap, sym, subst, length, true, false, ℕ}
 use Rattle.samoa_invariant.specs.Runs.{Trace}
 use Rattle.samoa_invariant.specs.Settling.{ReleasesOf}
-use Rattle.samoa_invariant.proofs.Making.{releases_of-none}
+use Rattle.samoa_invariant.proofs.settling.Making.{releases_of-none}
 use Rattle.samoa_core.specs.Later.{IsLater}
 use Rattle.samoa_core.proofs.Later.{later-made}
 use Rattle.samoa_core.proofs.Passes.{none-released}
@@ -17,7 +17,7 @@ loop-micro-init g c = record {
   made = releases_of-none c.args.self.now c.args.comp;
   kept = c.requires.kept;
   admitted = c.requires.admitted;
-  micros = sym c.micros.ensures;
+  micros = sym c.micros-micros.ensures;
   below = omega arith;
 }
 
@@ -31,6 +31,6 @@ loop-micro-preserved g c =
       made = made;
       kept = rw later.cleared kept;
       admitted = rw later.exts admitted;
-      micros = ap (λ s. length s.micros) later.script ∙ sym c.micros.ensures;
+      micros = ap (λ s. length s.micros) later.script ∙ sym c.micros-micros.ensures;
       below = omega arith;
     }

@@ -1,5 +1,5 @@
 use Rattle.samoa_invariant.specs.Settling.{Settles}
-use Rattle.samoa_invariant.proofs.Releasing.{settles-settled}
+use Rattle.samoa_invariant.proofs.settling.Releasing.{settles-settled}
 use Rattle.samoa_core.proofs.Later.{later-trans}
 use Rattle.samoa_core.proofs.kernel.Core.settle.Goals as goal
 

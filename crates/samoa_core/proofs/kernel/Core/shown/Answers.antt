@@ -3,7 +3,7 @@ use Rattle.samoa_model.specs.Scripts.{micro_at}
 use Rattle.samoa_serial.specs.Kinds.{shown}
 use Rattle.samoa_serial.specs.State.{State}
 use Rattle.samoa_invariant.specs.Runs.{Trace}
-use Rattle.samoa_invariant.proofs.Traces.{final}
+use Rattle.samoa_invariant.proofs.representation.Traces.{final}
 use Rattle.samoa_core.proofs.kernel.Core.shown.Goals as goal
 
 pub returns-clause-serial : goal.returns-clause-serial
