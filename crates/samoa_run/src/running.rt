@@ -5,7 +5,7 @@ ghost use Rattle.samoa_model.specs.Cells.{cells_of, need};
 ghost use Rattle.samoa_model.specs.Range.{IsExtOf};
 ghost use Rattle.samoa_invariant.specs.State.{AllEnded, NothingOut};
 ghost use Rattle.samoa_invariant.specs.Runs.{state};
-ghost use Rattle.samoa_core.specs.Scans.{IsLater};
+ghost use Rattle.samoa_core.specs.Later.{IsLater};
 ghost use Rattle.samoa_core.specs.Since.{cleared_comps};
 ghost use Rattle.samoa_run.specs.Running.{HasOpened};
 
