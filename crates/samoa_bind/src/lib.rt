@@ -2,6 +2,7 @@
 #![tactic(auto)]
 
 mod epochs;
+mod lists;
 mod tables;
 
 pub use tables::Tables;

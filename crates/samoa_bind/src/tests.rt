@@ -4,78 +4,54 @@ ghost use Rattle.samoa_model.specs.Range.{IsInRange};
 
 use crate::Tables;
 use samoa_model::{
-    Decl, DeclDef, EventDef, EventId, HandlerId, Kind, Listed, MicroDef, MicroId, Name, NoMemory,
-    NodeId, Script, Words,
+    CodeDef, Decl, DeclDef, EventDef, EventId, HandlerId, Kind, Listed, MicroDef, MicroId, Name,
+    NoMemory, NodeId, Script, Words,
 };
 use std::alloc::Global;
 use std::test::Fail;
 
-const FIRST: HandlerId = HandlerId {
+const ONLY: HandlerId = HandlerId {
     micro: MicroId(0),
     index: 0,
 };
 
-const SECOND: HandlerId = HandlerId {
-    micro: MicroId(1),
-    index: 2,
-};
-
-fn micro(alloc: Global, name: &str) -> MicroDef
-    requires some { 0 < length name.now }
-    requires few { length name.now ≤ 33 }
-    ensures ports { result.ports ≡ [] }
-    ensures changes { result.changes ≡ [] }
-    ensures handlers { result.handlers ≡ [] }
+/// Two nodes, one microprotocol with one handler, and one event that it is bound to.
+fn small_script(alloc: Global) -> Result<Script, NoMemory>
+    ensures range { IfOk result IsInRange }
+    ensures nodes { IfOk result (λ script. script.nodes ≡ 2) }
+    ensures events { IfOk result (λ script. length script.events ≡ 1) }
 {
-    MicroDef {
-        name: Name::new(name),
+    let code = CodeDef {
+        name: Name::new("h"),
+        code: Listed::from_vec(Vec::new(alloc)),
+    };
+    let micro = MicroDef {
+        name: Name::new("m"),
         kind: Kind::Prog,
         nums: Words::new(),
         ports: Listed::from_vec(Vec::new(alloc)),
         changes: Listed::from_vec(Vec::new(alloc)),
-        handlers: Listed::from_vec(Vec::new(alloc)),
-    }
-}
-
-fn event(name: &str, handlers: Vec<HandlerId>) -> EventDef
-    requires some { 0 < length name.now }
-    requires few { length name.now ≤ 33 }
-    ensures decl { result.decl ≡ 0 }
-    ensures handlers { result.handlers ≡ handlers.items }
-{
-    EventDef {
-        name: Name::new(name),
-        decl: 0,
-        handlers: Listed::from_vec(handlers),
-    }
-}
-
-/// Two nodes, and the events `both` and `none`.
-fn small_script(alloc: Global) -> Result<Script, NoMemory>
-    ensures range { IfOk result IsInRange }
-    ensures nodes { IfOk result (λ script. script.nodes ≡ 2) }
-    ensures events { IfOk result (λ script. length script.events ≡ 2) }
-{
+        handlers: Listed::from_vec(Vec::from_array(alloc, [code])?),
+    };
     let decl = Decl::Set {
-        micros: Listed::from_vec(Vec::from_array(alloc, [0, 1])?),
+        micros: Listed::from_vec(Vec::from_array(alloc, [0])?),
     };
     let decl = DeclDef {
         name: Name::new("d"),
         budget: 2,
         decl,
     };
-    let micros = [micro(alloc, "a"), micro(alloc, "b")];
-    let both = Vec::from_array(alloc, [FIRST, SECOND])?;
-    let events = [event("both", both), event("none", Vec::new(alloc))];
-    let micros = Vec::from_array(alloc, micros)?;
-    let events = Vec::from_array(alloc, events)?;
-    let decls = Vec::from_array(alloc, [decl])?;
+    let event = EventDef {
+        name: Name::new("e"),
+        decl: 0,
+        handlers: Listed::from_vec(Vec::from_array(alloc, [ONLY])?),
+    };
     Ok(Script {
         nodes: 2,
         ticks: 1,
-        micros: Listed::from_vec(micros),
-        decls: Listed::from_vec(decls),
-        events: Listed::from_vec(events),
+        micros: Listed::from_vec(Vec::from_array(alloc, [micro])?),
+        decls: Listed::from_vec(Vec::from_array(alloc, [decl])?),
+        events: Listed::from_vec(Vec::from_array(alloc, [event])?),
         changes: Listed::from_vec(Vec::new(alloc)),
         does: Listed::from_vec(Vec::new(alloc)),
         losses: Listed::from_vec(Vec::new(alloc)),
@@ -90,11 +66,9 @@ fn resolves(rt: HostRuntime) -> Result<(), Fail> {
     for node in [0, 1] {
         let node = NodeId(node);
         let epoch = tables.current(node);
-        assert_eq!(rt; epoch, 0);
-        let both = tables.resolve(node, epoch, EventId(0));
-        assert_eq!(rt; both.len(), 2);
-        assert_eq!(rt; both[1], SECOND);
-        assert!(rt; tables.resolve(node, epoch, EventId(1)).is_empty());
+        let handlers = tables.resolve(node, epoch, EventId(0));
+        assert_eq!(rt; handlers.len(), 1);
+        assert_eq!(rt; handlers[0], ONLY);
     }
     Ok(())
 }

@@ -1,3 +1,4 @@
+pub mod Between
 pub mod Counts
 pub mod Listed
 pub mod Made

@@ -1,18 +1,26 @@
 -- The waiting calls name events of the table.
 use Rattle.std.proofs.Common.{arith, zero, suc, ℕ, ◌<◌, ◌∷◌, [], List, length, Option, Some}
+use Rattle.std.proofs.lemmas.List.{length-map}
 use Rattle.std.proofs.lemmas.List.Elements.{All-nil, All-push}
 use Rattle.samoa_model.specs.declared.handler.Reply.{Reply}
 use Rattle.samoa_model.specs.declared.handler.Outcome.{Outcome}
 use Rattle.samoa_model.specs.declared.record.Entry.{Entry}
 use Rattle.samoa_model.specs.declared.record.Ending.{Ending}
 use Rattle.samoa_model.specs.Allowed.{Attempt}
-use Rattle.samoa_model.specs.Scripts.{Table}
+use Rattle.samoa_model.specs.declared.handler.Moment.{Moment}
+use Rattle.samoa_model.specs.declared.script.EventDef.{EventDef}
+use Rattle.samoa_model.specs.declared.script.Script.{Script}
+use Rattle.samoa_model.specs.Range.{IsInRange}
+use Rattle.samoa_model.specs.Scripts.{Table, first_table, micro_at, setup_of}
+use Rattle.samoa_serial.specs.State.{State}
+use Rattle.samoa_serial.specs.Kinds.{kind_step}
+use Rattle.samoa_serial.proofs.CodeLaws.{steps_are_named}
 use Rattle.samoa_serial.specs.declared.call.Active.{Active}
 use Rattle.samoa_serial.specs.declared.call.Call.{Call}
 use Rattle.samoa_serial.specs.declared.call.Waiting.{Waiting}
 use Rattle.samoa_serial.specs.World.{Books, Attempts, noted}
 use Rattle.samoa_serial.specs.Calls.{Computation, attempted, woken, first_answer, replied, at_frame, outcome_effect, outcome_spends, outcome_taken, take_outcome, take_outcome_at}
-use Rattle.samoa_calls.specs.Handed.{AreNamed, IsNamed}
+use Rattle.samoa_calls.specs.Handed.{AreNamed, CallsNamed, IsNamed}
 
 named_later : (table : Table) (w : Waiting) (ws : List Waiting) → AreNamed table (w ∷ ws) → AreNamed table ws
 named_later table w ws all = λ k d lt. all (suc k) d (omega arith)
@@ -35,7 +43,7 @@ named-replied table attempt books answer [] reply all = named-woken table attemp
 named-replied table attempt books answer (a ∷ rest) reply all = all
 
 named-effect : (table : Table) (attempt : Attempts) (books : Books) (answer : Option Ending) (rest : List Active) (c : Call) (outcome : Outcome)
-    → AreNamed table books.waiting → IsNamed table outcome → AreNamed table (outcome_effect attempt books answer rest c outcome).waiting
+    → AreNamed table books.waiting → CallsNamed table outcome → AreNamed table (outcome_effect attempt books answer rest c outcome).waiting
 named-effect table attempt books answer rest c (Outcome.Call event arg frame) all named = go (attempt books.entries (Some c) event)
   where
     go : (a : Attempt) → AreNamed table (attempted books (Some c) event arg answer (at_frame c frame ∷ rest)
@@ -50,12 +58,12 @@ named-effect table attempt books answer rest c (Outcome.Change change arg frame)
 named-effect table attempt books answer rest c (Outcome.Done reply) all named = named-replied table attempt books answer rest (Reply.Words reply) all
 
 named-spends : (table : Table) (attempt : Attempts) (books : Books) (answer : Option Ending) (rest : List Active) (c : Call) (outcome : Outcome) (units : ℕ)
-    → AreNamed table books.waiting → IsNamed table outcome → AreNamed table (outcome_spends attempt books answer rest c outcome units).waiting
+    → AreNamed table books.waiting → CallsNamed table outcome → AreNamed table (outcome_spends attempt books answer rest c outcome units).waiting
 named-spends table attempt books answer rest c outcome zero all named = All-nil (λ (w : Waiting). w.event.0 < length table)
 named-spends table attempt books answer rest c outcome (suc left) all named = named-effect table attempt (record books { units = left }) answer rest c outcome all named
 
 named-outcome : (table : Table) (attempt : Attempts) (books : Books) (answer : Option Ending) (rest : List Active) (c : Call) (outcome : Outcome)
-    → AreNamed table books.waiting → IsNamed table outcome → AreNamed table (outcome_taken attempt books answer rest c outcome).waiting
+    → AreNamed table books.waiting → CallsNamed table outcome → AreNamed table (outcome_taken attempt books answer rest c outcome).waiting
 named-outcome table attempt books answer rest c (Outcome.Done reply) all named =
     named-replied table attempt (noted books (Entry.Finished c.number reply)) answer rest (Reply.Words reply) all
 named-outcome table attempt books answer rest c (Outcome.Call event arg frame) all named = named-spends table attempt books answer rest c (Outcome.Call event arg frame) books.units all named
@@ -65,11 +73,20 @@ named-outcome table attempt books answer rest c (Outcome.Deliver arg frame) all 
 named-outcome table attempt books answer rest c (Outcome.Change change arg frame) all named = named-spends table attempt books answer rest c (Outcome.Change change arg frame) books.units all named
 
 named-at : (table : Table) (attempt : Attempts) (active : List Active) (books : Books) (answer : Option Ending) (outcome : Outcome)
-    → AreNamed table books.waiting → IsNamed table outcome → AreNamed table (take_outcome_at attempt active books answer outcome).waiting
+    → AreNamed table books.waiting → CallsNamed table outcome → AreNamed table (take_outcome_at attempt active books answer outcome).waiting
 named-at table attempt [] books answer outcome all named = all
 named-at table attempt (a ∷ rest) books answer outcome all named = named-outcome table attempt books answer rest a.call outcome all named
 
 -- an outcome that names events of the table leaves waiting calls that do
-pub named-taken : (table : Table) (attempt : Attempts) (comp : Computation) (outcome : Outcome) → AreNamed table comp.waiting → IsNamed table outcome
+pub named-taken : (table : Table) (attempt : Attempts) (comp : Computation) (outcome : Outcome) → AreNamed table comp.waiting → CallsNamed table outcome
     → AreNamed table (take_outcome attempt comp outcome).waiting
 named-taken table attempt comp outcome all named = named-at table attempt comp.active comp.books comp.answer outcome all named
+
+-- a handler step of a script in range names what is of the script
+pub named_step : (script : Script) (node p : ℕ) (state : State) (moment : Moment) → IsInRange script
+    → IsNamed (first_table script) (kind_step (micro_at script p).kind (setup_of script node p) state moment).1
+named_step script node p state moment range = record {
+  script = script;
+  events = length-map script.events (λ (e : EventDef). e.handlers);
+  names = steps_are_named script range node p state moment;
+}

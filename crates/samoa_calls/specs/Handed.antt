@@ -1,5 +1,5 @@
 -- What contracts of a computation speak of beside the computation itself.
-use Rattle.std.specs.Prelude.{ℕ, ◌<◌, ◌-◌, List, [], ◌∷◌, Option, Some, None, All, length, option_map}
+use Rattle.std.specs.Prelude.{◌≡◌, ◌≢◌, ⊤, ℕ, ◌<◌, ◌-◌, List, [], ◌∷◌, Option, Some, None, All, length, option_map}
 use Rattle.samoa_model.specs.declared.handler.Reply.{Reply}
 use Rattle.samoa_model.specs.declared.handler.Moment.{Moment}
 use Rattle.samoa_model.specs.declared.handler.Outcome.{Outcome}
@@ -13,6 +13,9 @@ use Rattle.samoa_serial.specs.World.{Books}
 use Rattle.samoa_serial.specs.Calls.{Computation, first_answer, given}
 use Rattle.samoa_serial.specs.Alone.{next_step}
 use Rattle.samoa_model.specs.Scripts.{Table}
+use Rattle.samoa_model.specs.declared.script.Script.{Script}
+use Rattle.samoa_serial.specs.declared.call.Due.{Due}
+use Rattle.samoa_serial.specs.Known.{IsOutcomeOf}
 
 -- the call that waits for the reply has it; where none is active it is the answer, and the waiting calls still wait
 abbrev pub handed : Books → Option Ending → List Active → Reply → Computation
@@ -23,17 +26,23 @@ handed books answer (a ∷ rest) reply = record { active = given a.call a.due re
 abbrev pub spent : Books → Books
 spent books = record books { units = books.units - 1 }
 
--- the events that a list of waiting calls names, and that an outcome names, are in the table
+-- the events that a list of waiting calls names are in the table, and so is the one that an outcome calls
 abbrev pub AreNamed : Table → List Waiting → Type 0
 AreNamed table waiting = All (λ w. w.event.0 < length table) waiting
 
-abbrev pub IsNamed : Table → Outcome → Type 0
-IsNamed table (Outcome.Call event arg frame) = event.0 < length table
-IsNamed table (Outcome.Later event arg frame) = event.0 < length table
-IsNamed table (Outcome.Done reply) = Unit {0}
-IsNamed table (Outcome.Send to event arg frame) = Unit {0}
-IsNamed table (Outcome.Deliver arg frame) = Unit {0}
-IsNamed table (Outcome.Change change arg frame) = Unit {0}
+abbrev pub CallsNamed : Table → Outcome → Type 0
+CallsNamed table (Outcome.Call event arg frame) = event.0 < length table
+CallsNamed table (Outcome.Later event arg frame) = event.0 < length table
+CallsNamed table (Outcome.Done reply) = ⊤
+CallsNamed table (Outcome.Send to event arg frame) = ⊤
+CallsNamed table (Outcome.Deliver arg frame) = ⊤
+CallsNamed table (Outcome.Change change arg frame) = ⊤
+
+-- all that an outcome names is of a script that has as many events as the table
+pub record IsNamed (table : Table) (outcome : Outcome) : Type 0 where
+  pub script : Script
+  pub events : length table ≡ length script.events
+  pub names : IsOutcomeOf script outcome
 
 -- what a bound counts is at the microprotocols 0 to 23
 abbrev pub AreCounted : List HandlerId → Type 0
@@ -62,3 +71,22 @@ ending_at active waiting answer = None
 
 abbrev pub ending_of : Computation → Option Ending
 ending_of comp = ending_at comp.active comp.waiting comp.answer
+
+abbrev pub NothingLeft : Computation → Type 0
+NothingLeft comp = (comp.active ≡ []) × (comp.waiting ≡ [])
+
+-- an admission enters the root call or its refusal
+abbrev pub IsStarted : Computation → Type 0
+IsStarted comp = 0 < length comp.entries
+
+-- the innermost active call is at its next moment, and waits for no reply
+abbrev pub IsAtMoment : List Active → Type 0
+IsAtMoment [] = ⊤
+IsAtMoment (a ∷ rest) = (moment : Moment) × (a.due ≡ Due.Next moment)
+
+-- a computation between two of its steps: while a call waits some call is active, the innermost one can go on, and where none is
+-- active after a start an answer is there
+pub record IsBetween (comp : Computation) : Type 0 where
+  pub idle : comp.active ≡ [] → comp.waiting ≡ []
+  pub next : IsAtMoment comp.active
+  pub answered : comp.active ≡ [] → IsStarted comp → comp.answer ≢ None

@@ -7,7 +7,7 @@ ghost use Rattle.samoa_serial.specs.declared.call.Call.{Call};
 ghost use Rattle.samoa_serial.specs.World.{attempts_of, noted, over_budget, waits};
 ghost use Rattle.samoa_serial.specs.Calls.{cut, goes_on, outcome_effect, start, take_outcome, woken};
 ghost use Rattle.samoa_bind.specs.Bound.{epochs_of, table_at};
-ghost use Rattle.samoa_calls.specs.Handed.{AreCounted, AreNamed, IsCounted, IsNamed, ended_at, ending_of, fresh, handed, next_moment, spent};
+ghost use Rattle.samoa_calls.specs.Handed.{AreCounted, AreNamed, CallsNamed, IsCounted, ended_at, ending_of, fresh, handed, next_moment, spent};
 ghost use Rattle.samoa_calls.specs.Held.{handlers_of};
 
 use crate::attempt::attempt;
@@ -172,7 +172,7 @@ impl Calls {
         requires counted { IsCounted (table_at tables.now node epoch) }
         requires listed { self.old.waiting_handlers ≡ handlers_of (table_at tables.now node epoch) self.old.waiting }
         requires waiting_named { AreNamed (table_at tables.now node epoch) self.old.waiting }
-        requires named { IsNamed (table_at tables.now node epoch) outcome }
+        requires named { CallsNamed (table_at tables.now node epoch) outcome }
         ensures taken { self.new.comp
             ≡ take_outcome (attempts_of decl.now (table_at tables.now node epoch)) self.old.comp outcome }
         ensures listed { self.new.waiting_handlers ≡ handlers_of (table_at tables.now node epoch) self.new.waiting }
@@ -206,7 +206,7 @@ impl Calls {
         requires epoch { epoch < length (epochs_of tables.now node) }
         requires counted { IsCounted (table_at tables.now node epoch) }
         requires listed { self.old.waiting_handlers ≡ handlers_of (table_at tables.now node epoch) self.old.waiting }
-        requires named { IsNamed (table_at tables.now node epoch) outcome }
+        requires named { CallsNamed (table_at tables.now node epoch) outcome }
         requires not_done { (c : Call) → ended_at c outcome ≡ None }
         ensures effect { (a : Active) (rest : List Active) → self.old.active ≡ a ∷ rest
             → self.new.comp ≡ outcome_effect (attempts_of decl.now (table_at tables.now node epoch))

@@ -1,12 +1,12 @@
 //! A computation with the number of its declaration.
-ghost use Rattle.std.specs.Prelude.{◌≡◌, ◌<◌, ◌≤◌, ◌↔◌, List, [], ◌∷◌, length, IfOk, IsSome, IsTrue, slice_get};
+ghost use Rattle.std.specs.Prelude.{◌≡◌, ◌<◌, ◌≤◌, ◌↔◌, List, [], ◌∷◌, length, None, IfOk, IsSome, IsTrue, slice_get};
 ghost use Rattle.samoa_model.specs.Scripts.{Table, resolve};
 ghost use Rattle.samoa_serial.specs.declared.call.Active.{Active};
 ghost use Rattle.samoa_serial.specs.World.{attempts_of};
 ghost use Rattle.samoa_serial.specs.Calls.{start, take_outcome};
 ghost use Rattle.samoa_bind.specs.Bound.{epochs_of, table_at};
 ghost use Rattle.samoa_calls.specs.Held.{Held, handlers_of};
-ghost use Rattle.samoa_calls.specs.Handed.{AreCounted, AreNamed, IsCounted, IsNamed, ended_at, ending_of, fresh, next_moment};
+ghost use Rattle.samoa_calls.specs.Handed.{AreCounted, AreNamed, IsCounted, IsNamed, IsStarted, NothingLeft, ended_at, ending_of, fresh, next_moment};
 
 use crate::calls::Calls;
 use samoa_bind::Tables;
@@ -31,6 +31,10 @@ impl Model for Comp {
     ghost Value = { Held };
 
     ghost view = { λ c. record { decl = c.decl; comp = c.calls.comp; waiting_handlers = c.calls.waiting_handlers } };
+
+    ghost use Rattle.samoa_calls.specs.Handed.{IsBetween};
+
+    ghost invariant = { λ c. IsBetween c.calls.comp };
 }
 
 /// Its active calls, the innermost first, and its waiting calls, the first first, each with all its handlers.
@@ -95,6 +99,7 @@ impl Comp {
     /// The microprotocol and the moment of the next handler step, None exactly where nothing is left. It takes no memory.
     pub fn next(&self) -> Option<(MicroId, Moment)>
         ensures next { result ≡ next_moment self.now.comp }
+        ensures none { (result ≡ None) ↔ NothingLeft self.now.comp }
         ensures active { IsSome result → (a : Active) × (rest : List Active) × (self.now.active ≡ a ∷ rest) }
     {
         self.calls.next()
@@ -137,7 +142,8 @@ impl Comp {
 
     /// How a computation that was started ended, None exactly where something is left. It takes no memory.
     pub fn ending(&self) -> Option<Ending>
-        ensures { result ≡ ending_of self.now.comp }
+        ensures ending { result ≡ ending_of self.now.comp }
+        ensures none { IsStarted self.now.comp → (result ≡ None) ↔ (NothingLeft self.now.comp → ⊥) }
     {
         self.calls.ending()
     }

@@ -1,7 +1,7 @@
 //! The calls of a computation that are still to come.
 ghost use Rattle.std.specs.Prelude.{◌≡◌, ◌<◌, ◌^◌, ◌↔◌, IsTrue, List, length, slice_get};
 ghost use Rattle.samoa_model.specs.declared.ids.HandlerId.{HandlerId};
-ghost use Rattle.samoa_declare.specs.Left.{NothingLeft};
+ghost use Rattle.samoa_model.specs.Paths.{NothingLeft};
 
 use samoa_model::HandlerId;
 

@@ -1,24 +1,32 @@
 -- A tree without a fault of the form means a draft within its limits.
-use Rattle.std.proofs.Common.{◌≡◌, ℕ, ◌≤◌, Bool, true, false, ◌&&◌, cond, List, [], ◌∷◌, length, map, nat_le, nat_lt, Option, Some, None, unwrap_or, codes, refl, arith}
+use Rattle.std.proofs.Common.{◌≡◌, ℕ, ◌≤◌, Bool, true, false, ◌&&◌, cond, List, [], ◌∷◌, length, map, nat_le, nat_lt, Option, Some, None, unwrap_or, codes, refl, subst, arith}
+use Rattle.std.specs.Prelude.{is_some, option_and_then}
 use Rattle.std.proofs.lemmas.List.{length-map}
-use Rattle.std.specs.List.{All}
+use Rattle.std.specs.List.{All, list_all}
 use Rattle.std.specs.Option.{option_map_or}
+use Rattle.std.proofs.lemmas.Bool.{and_parts}
 use Rattle.std.proofs.lemmas.Bool.Decides.{nat_tests}
 use Rattle.std.proofs.lemmas.List.Elements.{All-nil, All-cons}
 use Rattle.serde_json.specs.Data.{Data, null}
-use Rattle.serde_json.specs.Find.{get}
+use Rattle.serde_json.specs.Find.{get, as_str}
+use Rattle.samoa_model.specs.declared.setup.Kind.{Kind}
+use Rattle.samoa_model.specs.declared.setup.Kind.TheVariants.{Prog, Link, Fd, Rbcast, Cons, Abcast, Seqcast, Repl, Views}
+use Rattle.samoa_model.specs.declared.script.CodeDef.{CodeDef}
+use Rattle.samoa_model.specs.NameRule.{is_script_name, IsScriptName}
+use Rattle.samoa_model.specs.Range.{IsInstr, IsCode, HasHandlers}
 use Rattle.samoa_grammar.specs.declared.fault.WalkFault.{WalkFault}
 use Rattle.samoa_grammar.specs.declared.fault.WalkFault.TheVariants.{Missing, WrongForm, Over}
 use Rattle.samoa_grammar.specs.declared.draft.Form.{Form}
 use Rattle.samoa_grammar.specs.declared.draft.Form.TheVariants as forms
-use Rattle.samoa_grammar.specs.Tree.{part, is_list, list_of, is_number, number_of}
-use Rattle.samoa_grammar.specs.Names.{is_name, is_handler_name}
-use Rattle.samoa_grammar.specs.Instrs.{is_instr}
+use Rattle.samoa_grammar.specs.Tree.{part, is_list, list_of, is_number, number_of, is_text, text_of}
+use Rattle.samoa_grammar.specs.Names.{is_name, is_handler_text, IsHandlerText, is_handler_name}
+use Rattle.samoa_grammar.specs.Instrs.{is_instr, instr_of}
 use Rattle.samoa_grammar.specs.Walks.{◌then◌, first_along}
 use Rattle.samoa_grammar.specs.Tests.{object_fault, required, optional, form_test, number_fault, number_from_fault, name_fault, is_list_of, within_fault, items_fault, list_fault}
-use Rattle.samoa_grammar.specs.Forms.{code_fault, code_of, kind_in, is_kind, has_handlers, micro_keys, handlers_fault, handlers_of, micro_fault, micro_of, bound_fault, bound_of, is_edge, form_in, is_form, decl_keys, body_fault, body_of, decl_fault, decl_of, event_fault, event_of, table_fault, table_of, change_fault, change_of, cause_count_fault, cause_fault, do_fault, do_of, loss_fault, crash_fault, script_keys, is_version, form_of_all, draft_of}
+use Rattle.samoa_grammar.specs.Forms.{code_fault, code_of, kind_named, kind_in, is_kind, kind_or_prog, is_prog, has_handlers, micro_keys, handlers_fault, handlers_of, micro_fault, micro_of, bound_fault, bound_of, is_edge, form_named, form_in, is_form, decl_keys, body_fault, body_of, decl_fault, decl_of, event_fault, event_of, table_fault, table_of, change_fault, change_of, cause_count_fault, cause_fault, do_fault, do_of, loss_fault, crash_fault, script_keys, is_version, form_of_all, draft_of}
 use Rattle.samoa_form.proofs.Along.{then_none}
-use Rattle.samoa_form.specs.Limits.{IsShortCode, HasMicroLimits, HasCalls, HasBodyLimits, HasDeclLimits, HasEventLimits, HasTableLimits, HasChangeLimits, HasTick, HasLimits}
+use Rattle.samoa_grammar.proofs.Instrs.{instr_kept}
+use Rattle.samoa_form.specs.Limits.{HasMicroLimits, HasCalls, HasBodyLimits, HasDeclLimits, HasEventLimits, HasTableLimits, HasChangeLimits, HasDoLimits, HasLimits}
 
 -- ---- a chain of tests without a fault
 
@@ -52,26 +60,55 @@ at_optional : (P : Data → Type 0) (test : Data → Option WalkFault) (o : Opti
 at_optional P test None none each h = none
 at_optional P test (Some d) none each h = each d h
 
-few_within : (b : Bool) (found most : ℕ) (x y : WalkFault) → cond b (cond (nat_lt most found) (Some x) None) (Some y) ≡ None → found ≤ most
-few_within true found most x y h = grind (arith, nat_tests)
-few_within false found most x y h = absurd (cc)
-
 both_within : (least most found : ℕ) (key : List ℕ) → within_fault least most found key ≡ None → (least ≤ found) × (found ≤ most)
 both_within least most found key h = (grind (arith, nat_tests), grind (arith, nat_tests))
 
-few_items : (least most : ℕ) (passes : Data → Bool) (key : List ℕ) (d : Data) → items_fault least most passes key d ≡ None → length (list_of d) ≤ most
-few_items least most passes key d h = few_within (is_list_of least passes d) (length (list_of d)) most (Over key most) (WrongForm key) h
+-- the items of a list without keys
+record Items (least most : ℕ) (passes : Data → Bool) (d : Data) : Type 0 where
+  each : list_all passes (list_of d) ≡ true
+  some : least ≤ length (list_of d)
+  few : length (list_of d) ≤ most
 
-abbrev IsFew : ℕ → Data → Type 0
-IsFew most d = length (list_of d) ≤ most
+choice_none : (b : Bool) (x : Option WalkFault) (f : WalkFault) → cond b x (Some f) ≡ None → (b ≡ true) × (x ≡ None)
+choice_none true x f h = (refl, h)
+choice_none false x f h = absurd (cc)
 
-required_few : (least most : ℕ) (passes : Data → Bool) (key : List ℕ) (d : Data) → required key (items_fault least most passes) d ≡ None → length (list_of (part key d)) ≤ most
-required_few least most passes key d h =
-    at_required (IsFew most) (items_fault least most passes key) (get key d) (Missing key) (few_items least most passes key) h
+few_within : (most found : ℕ) (key : List ℕ) → cond (nat_lt most found) (Some (Over key most)) None ≡ None → found ≤ most
+few_within most found key h = grind (arith, nat_tests)
 
-optional_few : (least most : ℕ) (passes : Data → Bool) (key : List ℕ) (d : Data) → optional key (items_fault least most passes) d ≡ None → length (list_of (part key d)) ≤ most
-optional_few least most passes key d h =
-    at_optional (IsFew most) (items_fault least most passes key) (get key d) (omega arith) (few_items least most passes key) h
+items_kept : (least most : ℕ) (passes : Data → Bool) (key : List ℕ) (d : Data) → items_fault least most passes key d ≡ None → Items least most passes d
+items_kept least most passes key d h =
+    let many = length (list_of d) in
+    let parts = choice_none (is_list_of least passes d) (cond (nat_lt most many) (Some (Over key most)) None) (WrongForm key) h in
+    let inner = (and_parts (is_list d) (list_all passes (list_of d) && nat_le least many) parts.0).1 in
+    let both = and_parts (list_all passes (list_of d)) (nat_le least many) inner in
+    let e : nat_le least many ≡ true = both.1 in
+    record { each = both.0; some = grind (arith, nat_tests); few = few_within most many key parts.1 }
+
+required_items : (least most : ℕ) (passes : Data → Bool) (key : List ℕ) (d : Data) → required key (items_fault least most passes) d ≡ None → Items least most passes (part key d)
+required_items least most passes key d h =
+    at_required (Items least most passes) (items_fault least most passes key) (get key d) (Missing key) (items_kept least most passes key) h
+
+optional_items : (most : ℕ) (passes : Data → Bool) (key : List ℕ) (d : Data) → optional key (items_fault 0 most passes) d ≡ None → Items 0 most passes (part key d)
+optional_items most passes key d h =
+    at_optional (Items 0 most passes) (items_fault 0 most passes key) (get key d) (record { each = refl; some = omega arith; few = omega arith })
+    (items_kept 0 most passes key) h
+
+-- what each item is has a property
+All-items : {X : Type 0} (P : X → Type 0) (passes : Data → Bool) (meaning : Data → X) → ((d : Data) → passes d ≡ true → P (meaning d))
+    → (ds : List Data) → list_all passes ds ≡ true → All P (map meaning ds)
+All-items P passes meaning each [] h = All-nil P
+All-items P passes meaning each (d ∷ ds) h =
+    let parts = and_parts (passes d) (list_all passes ds) h in
+    All-cons P (meaning d) (map meaning ds) (each d parts.0) (All-items P passes meaning each ds parts.1)
+
+handler_texts : (ds : List Data) → list_all is_handler_name ds ≡ true → All IsHandlerText (map text_of ds)
+handler_texts ds h = All-items IsHandlerText is_handler_name text_of (λ d passes. (and_parts (is_text d) (is_handler_text (text_of d)) passes).1) ds h
+
+named : (key : List ℕ) (d : Data) → required key name_fault d ≡ None → IsScriptName (text_of (part key d))
+named key d h =
+    at_required (λ v. IsScriptName (text_of v)) (name_fault key) (get key d) (Missing key)
+    (λ v passes. (and_parts (is_text v) (is_script_name (text_of v)) (choice_none (is_name v) None (WrongForm key) passes).0).1) h
 
 number_parts : (b : Bool) (least most found : ℕ) (key : List ℕ) → cond b (within_fault least most found key) (Some (WrongForm key)) ≡ None → (least ≤ found) × (found ≤ most)
 number_parts true least most found key h = both_within least most found key h
@@ -147,22 +184,57 @@ All-meaning P fault meaning each (d ∷ ds) h =
 
 -- ---- the objects
 
-short_code : (list : List ℕ) (d : Data) → code_fault list d ≡ None → IsShortCode (code_of d)
+abbrev IsNamedCode : CodeDef → Type 0
+IsNamedCode code = IsScriptName code.name × IsCode code
+
+named_code : (list : List ℕ) (d : Data) → code_fault list d ≡ None → IsNamedCode (code_of d)
 unfolding code_fault code_of
-short_code list d h =
+named_code list d h =
     let parts = then_three
     (object_fault list (codes "name" ∷ codes "code" ∷ []) d)
     (required (codes "name") name_fault d)
     (required (codes "code") (items_fault 0 32 is_instr) d)
     h in
-    rw length-map (required_few 0 32 is_instr (codes "code") d parts.2)
+    let items = required_items 0 32 is_instr (codes "code") d parts.2 in
+    (named (codes "name") d parts.1, record { few = rw length-map items.few; instrs = All-items IsInstr is_instr instr_of instr_kept (list_of (part (codes "code") d)) items.each })
 
-handlers_within : (handlers : Bool) (d : Data) → handlers_fault handlers d ≡ None
-    → (length (handlers_of handlers d) ≤ 16) × All IsShortCode (handlers_of handlers d)
+-- the handlers of a microprotocol of the scripted kind, or of another
+record HasCodes (handlers : Bool) (cs : List CodeDef) : Type 0 where
+  own : cond handlers (1 ≤ length cs) (cs ≡ [])
+  few : length cs ≤ 16
+  each : All IsNamedCode cs
+
+handlers_within : (handlers : Bool) (d : Data) → handlers_fault handlers d ≡ None → HasCodes handlers (handlers_of handlers d)
 handlers_within true d h =
     let passed = required_passes 1 16 code_fault (codes "handlers") d h in
-    (rw length-map passed.few, All-meaning IsShortCode (code_fault (codes "handlers")) code_of (short_code (codes "handlers")) (list_of (part (codes "handlers") d)) passed.along)
-handlers_within false d h = (omega arith, All-nil IsShortCode)
+    record {
+      own = rw length-map passed.some;
+      few = rw length-map passed.few;
+      each = All-meaning IsNamedCode (code_fault (codes "handlers")) code_of (named_code (codes "handlers")) (list_of (part (codes "handlers") d)) passed.along;
+    }
+handlers_within false d h = record { own = refl; few = omega arith; each = All-nil IsNamedCode }
+
+own_handlers : (kind : Kind) (cs : List CodeDef) → cond (is_prog kind) (1 ≤ length cs) (cs ≡ []) → HasHandlers kind cs
+own_handlers Prog cs h = h
+own_handlers Link cs h = h
+own_handlers Fd cs h = h
+own_handlers Rbcast cs h = h
+own_handlers Cons cs h = h
+own_handlers Abcast cs h = h
+own_handlers Seqcast cs h = h
+own_handlers Repl cs h = h
+own_handlers Views cs h = h
+
+known_kind : (o : Option Kind) → is_some o ≡ true → has_handlers o ≡ is_prog (kind_or_prog o)
+known_kind None h = absurd (cc)
+known_kind (Some kind) h = refl
+
+kind_known : (d : Data) → required (codes "kind") (form_test is_kind) d ≡ None → is_some (kind_in d) ≡ true
+kind_known d h = at_kind (get (codes "kind") d) h
+  where
+    at_kind : (o : Option Data) → option_map_or (form_test is_kind (codes "kind")) o (Some (Missing (codes "kind"))) ≡ None → is_some (option_and_then kind_named (option_and_then as_str o)) ≡ true
+    at_kind None h = absurd (cc)
+    at_kind (Some v) h = (choice_none (is_kind v) None (WrongForm (codes "kind")) h).0
 
 micro_limits : (list : List ℕ) (d : Data) → micro_fault list d ≡ None → HasMicroLimits (micro_of d)
 unfolding micro_fault micro_of
@@ -178,12 +250,17 @@ micro_limits list d h =
     (nums then ports then changes then handlers)
     h in
     let rest = then_four nums ports changes handlers head.3 in
+    let within = handlers_within (has_handlers (kind_in d)) d rest.3 in
+    let cs = handlers_of (has_handlers (kind_in d)) d in
     record {
-      nums = rw length-map (optional_few 0 12 is_number (codes "nums") d rest.0);
-      ports = rw length-map (optional_few 0 16 is_name (codes "ports") d rest.1);
-      changes = rw length-map (optional_few 0 16 is_name (codes "changes") d rest.2);
-      handlers = (handlers_within (has_handlers (kind_in d)) d rest.3).0;
-      codes = (handlers_within (has_handlers (kind_in d)) d rest.3).1;
+      name = named (codes "name") d head.1;
+      nums = rw length-map (optional_items 12 is_number (codes "nums") d rest.0).few;
+      ports = rw length-map (optional_items 16 is_name (codes "ports") d rest.1).few;
+      changes = rw length-map (optional_items 16 is_name (codes "changes") d rest.2).few;
+      handlers = within.few;
+      own = own_handlers (kind_or_prog (kind_in d)) cs (subst (λ b. cond b (1 ≤ length cs) (cs ≡ [])) (known_kind (kind_in d) (kind_known d head.2)) within.own);
+      names = λ k e below. (within.each k e below).0;
+      codes = λ k e below. (within.each k e below).1;
     }
 
 bound_limits : (list : List ℕ) (d : Data) → bound_fault list d ≡ None → HasCalls (bound_of d)
@@ -196,15 +273,24 @@ bound_limits list d h =
     h in
     required_within 1 256 (codes "calls") d parts.2
 
-body_limits : (form : Option Form) (d : Data) → body_fault form d ≡ None → HasBodyLimits (body_of form d)
-body_limits None d h = omega arith
-body_limits (Some forms.Set) d h = rw length-map (required_few 1 24 is_name (codes "micros") d h)
-body_limits (Some forms.Bound) d h =
+body_limits : (form : Option Form) (d : Data) → is_some form ≡ true → body_fault form d ≡ None → HasBodyLimits (body_of form d)
+body_limits None d known h = absurd (cc)
+body_limits (Some forms.Set) d known h =
+    let items = required_items 1 24 is_name (codes "micros") d h in
+    (rw length-map items.some, rw length-map items.few)
+body_limits (Some forms.Bound) d known h =
     let passed = required_passes 1 24 bound_fault (codes "bounds") d h in
-    (rw length-map passed.few, All-meaning HasCalls (bound_fault (codes "bounds")) bound_of (bound_limits (codes "bounds")) (list_of (part (codes "bounds") d)) passed.along)
-body_limits (Some forms.Route) d h =
+    (rw length-map passed.some, rw length-map passed.few, All-meaning HasCalls (bound_fault (codes "bounds")) bound_of (bound_limits (codes "bounds")) (list_of (part (codes "bounds") d)) passed.along)
+body_limits (Some forms.Route) d known h =
     let parts = then_none (required (codes "roots") (items_fault 0 32 is_handler_name) d) (optional (codes "edges") (items_fault 0 256 is_edge) d) h in
-    (rw length-map (required_few 0 32 is_handler_name (codes "roots") d parts.0), rw length-map (optional_few 0 256 is_edge (codes "edges") d parts.1))
+    (rw length-map (required_items 0 32 is_handler_name (codes "roots") d parts.0).few, rw length-map (optional_items 256 is_edge (codes "edges") d parts.1).few)
+
+form_known : (d : Data) → required (codes "form") (form_test is_form) d ≡ None → is_some (form_in d) ≡ true
+form_known d h = at_form (get (codes "form") d) h
+  where
+    at_form : (o : Option Data) → option_map_or (form_test is_form (codes "form")) o (Some (Missing (codes "form"))) ≡ None → is_some (option_and_then form_named (option_and_then as_str o)) ≡ true
+    at_form None h = absurd (cc)
+    at_form (Some v) h = (choice_none (is_form v) None (WrongForm (codes "form")) h).0
 
 decl_limits : (list : List ℕ) (d : Data) → decl_fault list d ≡ None → HasDeclLimits (decl_of d)
 unfolding decl_fault decl_of
@@ -217,7 +303,7 @@ decl_limits list d h =
     (body_fault (form_in d) d)
     h in
     let budget = option_within 1 256 32 (codes "budget") (get (codes "budget") d) (omega arith, omega arith) parts.3 in
-    record { least_budget = budget.0; budget = budget.1; body = body_limits (form_in d) d parts.4 }
+    record { name = named (codes "name") d parts.1; least_budget = budget.0; budget = budget.1; body = body_limits (form_in d) d (form_known d parts.2) parts.4 }
 
 event_limits : (list : List ℕ) (d : Data) → event_fault list d ≡ None → HasEventLimits (event_of d)
 unfolding event_fault event_of
@@ -228,7 +314,8 @@ event_limits list d h =
     (required (codes "decl") name_fault d)
     (required (codes "handlers") (items_fault 0 4 is_handler_name) d)
     h in
-    rw length-map (required_few 0 4 is_handler_name (codes "handlers") d parts.3)
+    let items = required_items 0 4 is_handler_name (codes "handlers") d parts.3 in
+    record { name = named (codes "name") d parts.1; handlers = rw length-map items.few; formed = handler_texts (list_of (part (codes "handlers") d)) items.each }
 
 table_limits : (list : List ℕ) (d : Data) → table_fault list d ≡ None → HasTableLimits (table_of d)
 unfolding table_fault table_of
@@ -238,7 +325,8 @@ table_limits list d h =
     (required (codes "event") name_fault d)
     (required (codes "handlers") (items_fault 0 4 is_handler_name) d)
     h in
-    rw length-map (required_few 0 4 is_handler_name (codes "handlers") d parts.2)
+    let items = required_items 0 4 is_handler_name (codes "handlers") d parts.2 in
+    record { handlers = rw length-map items.few; formed = handler_texts (list_of (part (codes "handlers") d)) items.each }
 
 change_limits : (list : List ℕ) (d : Data) → change_fault list d ≡ None → HasChangeLimits (change_of d)
 unfolding change_fault change_of
@@ -251,11 +339,13 @@ change_limits list d h =
     h in
     let passed = required_passes 1 16 table_fault (codes "table") d parts.3 in
     record {
+      name = named (codes "name") d parts.1;
+      some_row = rw length-map passed.some;
       table = rw length-map passed.few;
       rows = All-meaning HasTableLimits (table_fault (codes "table")) table_of (table_limits (codes "table")) (list_of (part (codes "table") d)) passed.along;
     }
 
-do_limits : (list : List ℕ) (d : Data) → do_fault list d ≡ None → HasTick (do_of d)
+do_limits : (list : List ℕ) (d : Data) → do_fault list d ≡ None → HasDoLimits (do_of d)
 unfolding do_fault do_of
 do_limits list d h =
     let parts = then_four
@@ -264,7 +354,8 @@ do_limits list d h =
     (required (codes "tick") (number_from_fault 1) d)
     (required (codes "node") (number_from_fault 0) d then cause_fault d then optional (codes "args") (items_fault 0 12 is_number) d)
     h in
-    required_from 1 (codes "tick") d parts.2
+    let rest = then_three (required (codes "node") (number_from_fault 0) d) (cause_fault d) (optional (codes "args") (items_fault 0 12 is_number) d) parts.3 in
+    record { tick = required_from 1 (codes "tick") d parts.2; args = rw length-map (optional_items 12 is_number (codes "args") d rest.2).few }
 
 -- ---- the whole
 
@@ -331,7 +422,7 @@ draft_limits d h =
       few_changes = rw length-map parts.changes.few;
       changes = All-meaning HasChangeLimits (change_fault (codes "changes")) change_of (change_limits (codes "changes")) (list_of (part (codes "changes") d)) parts.changes.along;
       few_does = rw length-map parts.does.few;
-      does = All-meaning HasTick (do_fault (codes "do")) do_of (do_limits (codes "do")) (list_of (part (codes "do") d)) parts.does.along;
+      does = All-meaning HasDoLimits (do_fault (codes "do")) do_of (do_limits (codes "do")) (list_of (part (codes "do") d)) parts.does.along;
       few_losses = rw length-map parts.losses.few;
       few_crashes = rw length-map parts.crashes.few;
     }

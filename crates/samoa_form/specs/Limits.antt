@@ -1,7 +1,11 @@
--- What the first pass tells of a script's draft: each number and each list within its limit.
+-- What the first pass tells of a script's draft: each number and each list within its limit, and what is named has a name
+-- of a script.
 use Rattle.std.specs.Prelude.{◌≤◌, length}
 use Rattle.std.specs.List.{All}
 use Rattle.samoa_model.specs.declared.script.CodeDef.{CodeDef}
+use Rattle.samoa_model.specs.NameRule.{IsScriptName}
+use Rattle.samoa_model.specs.Range.{HasHandlers, IsCode}
+use Rattle.samoa_grammar.specs.Names.{IsHandlerText}
 use Rattle.samoa_grammar.specs.declared.draft.MicroDraft.{MicroDraft}
 use Rattle.samoa_grammar.specs.declared.draft.BoundDraft.{BoundDraft}
 use Rattle.samoa_grammar.specs.declared.draft.BodyDraft.{BodyDraft}
@@ -13,41 +17,48 @@ use Rattle.samoa_grammar.specs.declared.draft.ChangeDraft.{ChangeDraft}
 use Rattle.samoa_grammar.specs.declared.draft.DoDraft.{DoDraft}
 use Rattle.samoa_grammar.specs.declared.draft.Draft.{Draft}
 
-abbrev pub IsShortCode : CodeDef → Type 0
-IsShortCode code = length code.code ≤ 32
-
 pub record HasMicroLimits (m : MicroDraft) : Type 0 where
+  pub name : IsScriptName m.name
   pub nums : length m.nums ≤ 12
   pub ports : length m.ports ≤ 16
   pub changes : length m.changes ≤ 16
   pub handlers : length m.handlers ≤ 16
-  pub codes : All IsShortCode m.handlers
+  pub own : HasHandlers m.kind m.handlers
+  pub names : All (λ (h : CodeDef). IsScriptName h.name) m.handlers
+  pub codes : All IsCode m.handlers
 
 abbrev pub HasCalls : BoundDraft → Type 0
 HasCalls b = (1 ≤ b.calls) × (b.calls ≤ 256)
 
 abbrev pub HasBodyLimits : BodyDraft → Type 0
-HasBodyLimits (bodies.Set micros) = length micros ≤ 24
-HasBodyLimits (bodies.Bound bounds) = (length bounds ≤ 24) × All HasCalls bounds
+HasBodyLimits (bodies.Set micros) = (1 ≤ length micros) × (length micros ≤ 24)
+HasBodyLimits (bodies.Bound bounds) = (1 ≤ length bounds) × (length bounds ≤ 24) × All HasCalls bounds
 HasBodyLimits (bodies.Route roots edges) = (length roots ≤ 32) × (length edges ≤ 256)
 
 pub record HasDeclLimits (d : DeclDraft) : Type 0 where
+  pub name : IsScriptName d.name
   pub least_budget : 1 ≤ d.budget
   pub budget : d.budget ≤ 256
   pub body : HasBodyLimits d.body
 
-abbrev pub HasEventLimits : EventDraft → Type 0
-HasEventLimits e = length e.handlers ≤ 4
+pub record HasEventLimits (e : EventDraft) : Type 0 where
+  pub name : IsScriptName e.name
+  pub handlers : length e.handlers ≤ 4
+  pub formed : All IsHandlerText e.handlers
 
-abbrev pub HasTableLimits : TableDraft → Type 0
-HasTableLimits t = length t.handlers ≤ 4
+pub record HasTableLimits (t : TableDraft) : Type 0 where
+  pub handlers : length t.handlers ≤ 4
+  pub formed : All IsHandlerText t.handlers
 
 pub record HasChangeLimits (c : ChangeDraft) : Type 0 where
+  pub name : IsScriptName c.name
+  pub some_row : 1 ≤ length c.table
   pub table : length c.table ≤ 16
   pub rows : All HasTableLimits c.table
 
-abbrev pub HasTick : DoDraft → Type 0
-HasTick item = 1 ≤ item.tick
+pub record HasDoLimits (item : DoDraft) : Type 0 where
+  pub tick : 1 ≤ item.tick
+  pub args : length item.args ≤ 12
 
 pub record HasLimits (x : Draft) : Type 0 where
   pub some_node : 1 ≤ x.nodes
@@ -66,6 +77,6 @@ pub record HasLimits (x : Draft) : Type 0 where
   pub few_changes : length x.changes ≤ 16
   pub changes : All HasChangeLimits x.changes
   pub few_does : length x.does ≤ 8192
-  pub does : All HasTick x.does
+  pub does : All HasDoLimits x.does
   pub few_losses : length x.losses ≤ 256
   pub few_crashes : length x.crashes ≤ 8

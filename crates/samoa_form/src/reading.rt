@@ -68,7 +68,8 @@ pub fn read_form(alloc: Global, value: &Value) -> Result<Draft, Stop>
     draft(alloc, value)
 }
 
-/// In a draft of a tree without a fault of the form each number and each list is within its limit.
+/// In a draft of a tree without a fault of the form each number and each list is within its limit, and names have their
+/// form.
 pub fn form_limits()
     ensures { (d : Data) → form_of_all d ≡ None → HasLimits (draft_of d) }
 {}

@@ -1,1 +1,4 @@
+pub mod Apart
+pub mod Dedup
+pub mod Instrs
 pub mod Reference

@@ -1,13 +1,11 @@
 -- The walk and the meaning of scripts, beside what an independent program gives for the same trees.
-use Rattle.std.specs.Prelude.{◌≡◌, ℕ, Bool, true, false, ℤ, negsuc, List, [], ◌∷◌, map, codes, Option, Some, None, refl}
-use Rattle.serde_json.specs.Data.{Data, null, boolean, number, string, array, object, unsigned, negative, Items, no_items, item, Members, no_members, member}
+use Rattle.std.specs.Prelude.{◌≡◌, negsuc, [], ◌∷◌, codes, Some, None, refl}
+use Rattle.serde_json.specs.Data.{Data, number, string, array, object, unsigned, negative, no_items, item, no_members, member}
 use Rattle.samoa_model.specs.declared.setup.Place.TheVariants.{Reg, Local}
 use Rattle.samoa_model.specs.declared.setup.Instr.TheVariants as instr
-use Rattle.samoa_model.specs.declared.setup.Kind.TheVariants.{Prog, Link, Fd, Rbcast, Cons, Abcast, Seqcast, Repl, Views}
+use Rattle.samoa_model.specs.declared.setup.Kind.TheVariants.{Prog, Link}
 use Rattle.samoa_model.specs.declared.record.Cause.TheVariants as causes
 use Rattle.samoa_model.specs.declared.script.Decl.{Decl}
-use Rattle.samoa_model.specs.declared.script.Script.{Script}
-use Rattle.samoa_grammar.specs.declared.fault.WalkFault.{WalkFault}
 use Rattle.samoa_grammar.specs.declared.fault.WalkFault.TheVariants.{Missing, WrongForm, Unknown, Twice, Over}
 use Rattle.samoa_grammar.specs.Held.{walk_fault, script_meant}
 use Rattle.samoa_grammar.specs.Instrs.{instr_in}

@@ -1,5 +1,5 @@
 -- Instructions of a scripted handler.
-use Rattle.std.specs.Prelude.{◌≡◌, ℕ, ◌-◌, ◌^◌, min, Bool, ◌&&◌, ◌==◌, List, [], ◌∷◌, nat_le, codes, bytes_eq, Option, Some, None, option_map, option_and_then, unwrap_or, is_some, if◌then◌else◌}
+use Rattle.std.specs.Prelude.{ℕ, ◌-◌, ◌^◌, min, Bool, ◌&&◌, ◌==◌, List, [], ◌∷◌, nat_le, codes, bytes_eq, Option, Some, None, option_map, option_and_then, unwrap_or, is_some, if◌then◌else◌}
 use Rattle.serde_json.specs.Data.{Data}
 use Rattle.serde_json.specs.Find.{as_str}
 use Rattle.samoa_model.specs.declared.setup.Place.{Place}

@@ -1,11 +1,10 @@
 -- What a script means whose names are all defined: each name becomes the number of what it names.
-use Rattle.std.specs.Prelude.{ℕ, Bool, ◌&&◌, ◌==◌, List, [], ◌∷◌, ◌++◌, map, bytes_eq, codes, get_or, Option, Some, None, option_map, option_and_then, unwrap_or, if◌then◌else◌}
+use Rattle.std.specs.Prelude.{ℕ, Bool, ◌&&◌, ◌==◌, List, [], ◌∷◌, ◌++◌, map, bytes_eq, get_or, Option, option_map, option_and_then, unwrap_or, if◌then◌else◌}
 use Rattle.std.specs.List.{list_any, flat_map, position}
 use Rattle.samoa_model.specs.declared.ids.EventId.{EventId}
 use Rattle.samoa_model.specs.declared.ids.ChangeId.{ChangeId}
 use Rattle.samoa_model.specs.declared.ids.HandlerId.{HandlerId}
-use Rattle.samoa_model.specs.declared.setup.Kind.{Kind}
-use Rattle.samoa_model.specs.declared.setup.Kind.TheVariants.{Prog, Link, Fd, Rbcast, Cons, Abcast, Seqcast, Repl, Views}
+use Rattle.samoa_model.specs.declared.setup.Kind.TheVariants.{Prog}
 use Rattle.samoa_model.specs.declared.record.Cause.{Cause}
 use Rattle.samoa_model.specs.declared.record.Cause.TheVariants as causes
 use Rattle.samoa_model.specs.declared.script.CodeDef.{CodeDef}
@@ -20,6 +19,8 @@ use Rattle.samoa_model.specs.declared.script.LossDef.{LossDef}
 use Rattle.samoa_model.specs.declared.script.CrashDef.{CrashDef}
 use Rattle.samoa_model.specs.declared.script.Script.{Script}
 use Rattle.samoa_model.specs.Allowed.{same_handler, no_handler}
+use Rattle.samoa_model.specs.Handlers.{handlers_of_kind}
+use Rattle.samoa_model.specs.Routes.{once}
 use Rattle.samoa_grammar.specs.Names.{micro_part, handler_part}
 use Rattle.samoa_grammar.specs.declared.draft.MicroDraft.{MicroDraft}
 use Rattle.samoa_grammar.specs.declared.draft.BoundDraft.{BoundDraft}
@@ -43,18 +44,6 @@ number_in_names names name = unwrap_or (position (bytes_eq name) names) 0
 
 -- ---- handlers
 
--- the handlers of the kinds that aren't scripted, in the order of their numbers
-abbrev pub handlers_of_kind : Kind → List (List ℕ)
-handlers_of_kind Prog = []
-handlers_of_kind Link = codes "send" ∷ codes "recv" ∷ []
-handlers_of_kind Fd = codes "beat" ∷ codes "heard" ∷ []
-handlers_of_kind Rbcast = codes "cast" ∷ codes "recv" ∷ []
-handlers_of_kind Cons = codes "propose" ∷ codes "recv" ∷ codes "decide" ∷ codes "advance" ∷ codes "suspect" ∷ []
-handlers_of_kind Abcast = codes "cast" ∷ codes "heard" ∷ codes "decided" ∷ []
-handlers_of_kind Seqcast = codes "cast" ∷ codes "recv" ∷ []
-handlers_of_kind Repl = codes "cast" ∷ codes "deliver" ∷ codes "switched" ∷ []
-handlers_of_kind Views = codes "ask" ∷ codes "install" ∷ []
-
 -- the handlers of a microprotocol: those of its script, and those of its kind
 abbrev pub handler_names : MicroDraft → List (List ℕ)
 handler_names m = map (λ (h : CodeDef). h.name) m.handlers ++ handlers_of_kind m.kind
@@ -73,14 +62,6 @@ abbrev pub handler_of : List MicroDraft → List ℕ → HandlerId
 handler_of micros name = unwrap_or (handler_in micros name) no_handler
 
 -- ---- routes
-
--- each handler once, in first-seen order, but for those seen before
-abbrev pub once_after : List HandlerId → List HandlerId → List HandlerId
-once_after before [] = []
-once_after before (h ∷ hs) = if list_any (same_handler h) before then once_after before hs else h ∷ once_after (before ++ h ∷ []) hs
-
-abbrev pub once : List HandlerId → List HandlerId
-once hs = once_after [] hs
 
 -- the handlers of a route: its roots, and then the ends of its edges
 abbrev pub vertices_of : List MicroDraft → List (List ℕ) → List EdgeDraft → List HandlerId

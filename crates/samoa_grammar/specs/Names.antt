@@ -1,5 +1,5 @@
 -- Names in a JSON tree.
-use Rattle.std.specs.Prelude.{ℕ, Bool, ◌&&◌, ◌==◌, List, length, nat_lt}
+use Rattle.std.specs.Prelude.{◌≡◌, ℕ, Bool, true, ◌&&◌, ◌==◌, List, length, nat_lt}
 use Rattle.std.specs.List.{before_first, after_first, position_or_len}
 use Rattle.serde_json.specs.Data.{Data}
 use Rattle.samoa_model.specs.NameRule.{is_script_name}
@@ -23,6 +23,9 @@ handler_part text = after_first is_dot text
 
 abbrev pub is_handler_text : List ℕ → Bool
 is_handler_text text = has_dot text && (is_script_name (micro_part text) && is_script_name (handler_part text))
+
+abbrev pub IsHandlerText : List ℕ → Type 0
+IsHandlerText text = is_handler_text text ≡ true
 
 abbrev pub is_handler_name : Data → Bool
 is_handler_name d = is_text d && is_handler_text (text_of d)

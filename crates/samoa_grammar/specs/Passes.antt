@@ -1,6 +1,6 @@
 -- The passes after the first, over a script with its names as they stand: names that stand twice, names that aren't defined,
 -- and totals. Each group of tests covers the whole script before the next.
-use Rattle.std.specs.Prelude.{ℕ, ◌*◌, ◌-◌, Bool, true, false, List, [], ◌∷◌, ◌++◌, map, length, nat_le, nat_lt, codes, bytes_eq, count_by, Option, Some, None, is_some, if◌then◌else◌}
+use Rattle.std.specs.Prelude.{ℕ, ◌*◌, ◌-◌, Bool, true, List, [], ◌∷◌, ◌++◌, map, length, nat_le, nat_lt, codes, bytes_eq, count_by, Option, Some, None, is_some, if◌then◌else◌}
 use Rattle.std.specs.List.{list_any}
 use Rattle.samoa_model.specs.declared.setup.Kind.{Kind}
 use Rattle.samoa_model.specs.declared.setup.Kind.TheVariants.{Prog, Link, Fd, Rbcast, Cons, Abcast, Seqcast, Repl, Views}
@@ -8,6 +8,7 @@ use Rattle.samoa_model.specs.declared.setup.Instr.{Instr}
 use Rattle.samoa_model.specs.declared.setup.Instr.TheVariants as instr
 use Rattle.samoa_model.specs.declared.script.CodeDef.{CodeDef}
 use Rattle.samoa_model.specs.contracts.setup.KindPartialEq.TheImpl.{ghosts}
+use Rattle.samoa_model.specs.Range.{ports_needed}
 use Rattle.samoa_grammar.specs.declared.fault.WalkFault.{WalkFault}
 use Rattle.samoa_grammar.specs.declared.fault.WalkFault.TheVariants.{WrongForm, Unknown, Twice, Over}
 use Rattle.samoa_grammar.specs.declared.draft.MicroDraft.{MicroDraft}
@@ -107,18 +108,6 @@ unknown_fault x =
     then first_along (λ (item : DoDraft). cause_unknown x item.cause) x.does
 
 -- ---- the fourth pass
-
--- how many ports a kind needs
-abbrev pub ports_needed : Kind → ℕ
-ports_needed Prog = 0
-ports_needed Link = 1
-ports_needed Fd = 2
-ports_needed Rbcast = 2
-ports_needed Cons = 3
-ports_needed Abcast = 3
-ports_needed Seqcast = 2
-ports_needed Repl = 2
-ports_needed Views = 1
 
 abbrev pub ports_fault : MicroDraft → Option WalkFault
 ports_fault m = if nat_le (ports_needed m.kind) (length m.ports) then None else Some (WrongForm (codes "ports"))

@@ -8,6 +8,7 @@ use Rattle.samoa_model.specs.declared.handler.Moment.{Moment}
 use Rattle.samoa_serial.specs.declared.call.Call.{Call}
 use Rattle.samoa_serial.specs.Alone.{next_step}
 use Rattle.samoa_model.specs.Allowed.{weight}
+use Rattle.samoa_versions.specs.Counters.{IsTurn}
 use Rattle.samoa_invariant.specs.Play.{Play, is_bound, version, rules, point, stood, turns, table_at, table_of, attempts, whole_of, Never, NotYet, done, IsIdle}
 use Rattle.samoa_invariant.specs.State.{Core, Quiet, IsNextAt}
 
@@ -19,15 +20,15 @@ pub record Meets (P : Play) (k : ℕ) : Type 0 where
   pub counting : (n p : ℕ) → is_bound (P.decl k) ≡ true → 0 < weight (P.decl k) p → weight (P.decl k) p ≤ done (point P k n).turns p
       → Never (attempts P k) (point P k n).comp p
 
--- the slot's local version is in the interval of k
-pub record Owns (P : Play) (x k v p : ℕ) : Type 0 where
-  pub from : version P k v p ≤ x
-  pub below : x < version P (suc k) v p
+-- the slot's local version x is in the interval of k
+abbrev pub Owns : Play → ℕ → ℕ → ℕ → ℕ → Type 0
+Owns P x k v p = IsTurn x (version P k v p) (version P (suc k) v p)
 
--- what the core holds of tables and private versions is that of what was admitted
+-- what the core holds of tables and of the intervals of versions is that of what was admitted
 pub record IsBooked (P : Play) (core : Core) : Type 0 where
   pub present : (v : ℕ) → core.present v ≡ table_at P core.count v
   pub table : (k : ℕ) → k < core.count → core.table k ≡ table_of P k
+  pub from : (k v p : ℕ) → k < core.count → core.from k v p ≡ version P k v p
   pub private : (k v p : ℕ) → k < core.count → core.private k v p ≡ version P (suc k) v p
 
 -- global versions are the sums of all weights, local ones are within them, and under a bound an owner's local version

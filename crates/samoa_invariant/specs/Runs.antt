@@ -8,7 +8,7 @@ use Rattle.samoa_model.specs.declared.record.Step.{Step}
 use Rattle.samoa_model.specs.declared.script.Script.{Script}
 use Rattle.samoa_model.specs.Cells.{cells_of}
 use Rattle.samoa_model.specs.Scripts.{caused, decl_of, first_table, root_of}
-use Rattle.samoa_serial.specs.State.{State, Blank}
+use Rattle.samoa_serial.specs.State.{State, Registers}
 use Rattle.samoa_serial.specs.Alone.{state_after}
 use Rattle.samoa_serial.specs.Whole.{Ran}
 use Rattle.samoa_serial.specs.SerialRun.{node_step, opening_states, serial}
@@ -128,6 +128,12 @@ pub record IsRun (t : Trace) : Type 0 where
 abbrev pub IsDue : Trace → Step → Type 0
 IsDue t step = CanMake (play t) (state t) step
 
+-- whether a handler step was abandoned
+abbrev pub has_abandon : List Step → Bool
+has_abandon [] = false
+has_abandon (Step.Abandon comp ∷ later) = true
+has_abandon (_ ∷ later) = has_abandon later
+
 -- one more step
 abbrev pub with_step : Trace → Step → Trace
 with_step t step = record t { journal = t.journal ++ step ∷ [] }
@@ -146,7 +152,7 @@ opening_trace script cells = record { script = script; cells = cells; exts = [];
 
 -- what stands for a computation that isn't there
 abbrev pub no_ran : Ran
-no_ran = record { world = record { states = λ p. Blank; turns = []; books = record { units = 0; waiting = []; entries = [] } }; value = Cut }
+no_ran = record { world = record { states = λ p. Registers []; turns = []; books = record { units = 0; waiting = []; entries = [] } }; value = Cut }
 
 -- computation number comp in the serial run of what was admitted
 abbrev pub served_at : Trace → ℕ → Ran

@@ -1,25 +1,24 @@
 -- The whole core state, its steps, and when each is enabled.
-use Rattle.std.specs.Prelude.{◌≡◌, ◌≢◌, ℕ, zero, suc, ◌+◌, ◌-◌, ◌*◌, ◌<◌, ◌≤◌, List, [], ◌∷◌, ◌++◌, map, Bool, true, false, not, nat_le, nat_lt, ◌&&◌, Option, Some, None, ◌==◌, if◌then◌else◌}
+use Rattle.std.specs.Prelude.{◌≡◌, ◌≢◌, ℕ, zero, suc, ◌+◌, ◌-◌, ◌*◌, ◌<◌, ◌≤◌, List, [], ◌∷◌, map, Bool, true, false, nat_lt, Option, Some, None, ◌==◌, if◌then◌else◌}
 use Rattle.samoa_model.specs.declared.handler.Moment.{Moment}
 use Rattle.samoa_model.specs.declared.handler.Outcome.{Outcome}
-use Rattle.samoa_model.specs.declared.ids.HandlerId.{HandlerId}
 use Rattle.samoa_model.specs.declared.script.Decl.{Decl}
 use Rattle.samoa_serial.specs.declared.call.Call.{Call}
-use Rattle.samoa_serial.specs.declared.call.Active.{Active}
-use Rattle.samoa_serial.specs.declared.call.Waiting.{Waiting}
 use Rattle.samoa_serial.specs.State.{State}
 use Rattle.samoa_serial.specs.Calls.{Computation, start, take_outcome}
 use Rattle.samoa_serial.specs.Alone.{next_step}
-use Rattle.samoa_model.specs.Scripts.{resolve, Table}
+use Rattle.samoa_model.specs.Scripts.{Table}
 use Rattle.samoa_serial.specs.World.{attempts_of}
 use Rattle.samoa_model.specs.Allowed.{weight}
-use Rattle.samoa_model.specs.Paths.{IsSafe}
+use Rattle.samoa_model.specs.Paths.{MayRelease, handlers_by}
+use Rattle.samoa_versions.specs.Counters.{IsTurn}
 use Rattle.samoa_invariant.specs.Slots.{At, put_at}
 use Rattle.samoa_invariant.specs.Play.{Play, turns, weight_at, is_bound, ends_call, IsIdle}
 
 -- the core: how many were admitted; the present tables by node; by slot the global and local versions, the boxes and
--- to whom they are out; the cells held; whether a step was abandoned; and by computation its table, its private
--- versions, its calls, how many of its handler steps were made, and whether it has ended
+-- to whom they are out; the cells held; whether a step was abandoned; and by computation its table, the interval of
+-- versions that it holds at each slot, from one up to below the private one, its calls, how many of its handler steps
+-- were made, and whether it has ended
 pub record Core : Type 0 where
   pub count : ℕ
   pub present : ℕ → Table
@@ -30,6 +29,7 @@ pub record Core : Type 0 where
   pub cells : ℕ
   pub stopped : Bool
   pub table : ℕ → Table
+  pub from : ℕ → At ℕ
   pub private : ℕ → At ℕ
   pub comp : ℕ → Computation
   pub made : ℕ → ℕ
@@ -39,31 +39,9 @@ pub record Core : Type 0 where
 abbrev pub put : {A : Type 0} → (ℕ → A) → ℕ → A → ℕ → A
 put f k new j = if j == k then new else f j
 
--- no route leads from these handlers to p
-abbrev pub AllSafe : List HandlerId → List (ℕ × ℕ) → ℕ → List HandlerId → Type 0
-AllSafe vertices edges p [] = Unit {0}
-AllSafe vertices edges p (h ∷ hs) = IsSafe vertices edges p h × AllSafe vertices edges p hs
-
--- the same of the handlers of the active calls
-abbrev pub ActiveSafe : List HandlerId → List (ℕ × ℕ) → ℕ → List Active → Type 0
-ActiveSafe vertices edges p [] = Unit {0}
-ActiveSafe vertices edges p (a ∷ rest) = IsSafe vertices edges p a.call.handler × ActiveSafe vertices edges p rest
-
--- the same of the handlers of the waiting calls' events
-abbrev pub WaitingSafe : List HandlerId → List (ℕ × ℕ) → Table → ℕ → List Waiting → Type 0
-WaitingSafe vertices edges table p [] = Unit {0}
-WaitingSafe vertices edges table p (w ∷ ws) = AllSafe vertices edges p (resolve table w.event) × WaitingSafe vertices edges table p ws
-
--- no route leads from an active call or from a handler of a waiting call to p
-pub record RouteQuiet (vertices : List HandlerId) (edges : List (ℕ × ℕ)) (table : Table) (comp : Computation) (p : ℕ) : Type 0 where
-  pub active : ActiveSafe vertices edges p comp.active
-  pub waiting : WaitingSafe vertices edges table p comp.waiting
-
--- the computation may be done with p
+-- the computation may be done with p, by the handlers of its active calls and those of its waiting calls in its own table
 abbrev pub Quiet : Decl → Table → Computation → ℕ → Type 0
-Quiet (Decl.Set micros) table comp p = IsIdle comp
-Quiet (Decl.Bound bounds) table comp p = IsIdle comp
-Quiet (Decl.Route vertices roots edges) table comp p = RouteQuiet vertices edges table comp p
+Quiet decl table comp p = MayRelease decl (map (λ a. a.call.handler) comp.active) (handlers_by table (map (λ w. w.event) comp.waiting)) p
 
 -- the steps of the core, and the clear
 pub data Step : Type 0 where
@@ -85,6 +63,7 @@ admit P core =
       present = put core.present (P.node k) new;
       table = put core.table k new;
       global = λ v p. core.global v p + weight_at P k v p;
+      from = put core.from k core.global;
       private = put core.private k (λ v p. core.global v p + weight_at P k v p);
       comp = put core.comp k (start (attempts_of (P.decl k) new) (P.budget k) (P.root k) (P.args k));
       made = put core.made k zero;
@@ -146,12 +125,11 @@ made_by P core (Step.Release k p) = release P core k p
 made_by P core (Step.End k) = finish core k
 made_by P core Step.Clear = record core { cells = zero }
 
--- computation k has its turn at p of its node
+-- computation k has its turn at p of its node: the local version is one of those that it holds there
 pub record HasTurn (P : Play) (core : Core) (k p : ℕ) : Type 0 where
   pub admitted : k < core.count
-  pub declared : 0 < weight (P.decl k) p
-  pub from : core.private k (P.node k) p ≤ core.local (P.node k) p + weight (P.decl k) p
-  pub below : core.local (P.node k) p < core.private k (P.node k) p
+  pub turn : IsTurn (core.local (P.node k) p) (core.from k (P.node k) p) (core.private k (P.node k) p)
+  pub open turn use *
 
 -- there is one more external event, and its cells fit
 pub record CanAdmit (P : Play) (core : Core) : Type 0 where
@@ -222,6 +200,7 @@ empty P = record {
   cells = zero;
   stopped = false;
   table = λ k. [];
+  from = λ k v p. zero;
   private = λ k v p. zero;
   comp = λ k. record { active = []; books = record { units = zero; waiting = []; entries = [] }; answer = None };
   made = λ k. zero;
@@ -256,12 +235,6 @@ pub record IsLeastOpen (core : Core) (k : ℕ) : Type 0 where
   pub here : core.ended k ≡ false
   pub before : (j : ℕ) → j < k → core.ended j ≡ true
 
--- the least computation that can enter a box
-pub record IsPicked (P : Play) (core : Core) (k : ℕ) : Type 0 where
-  pub slot : ℕ
-  pub here : CanEnter P core k slot
-  pub before : (j p : ℕ) → j < k → CanEnter P core j p → ⊥
-
 -- a step that neither admits, nor abandons, nor clears
 abbrev pub IsForward : Step → Type 0
 IsForward Step.Admit = ⊥
@@ -272,53 +245,11 @@ IsForward (Step.Release k p) = Unit {0}
 IsForward (Step.End k) = Unit {0}
 IsForward Step.Clear = ⊥
 
--- the computation's next step is at its turn in a box that is home: what the core tests
-abbrev pub is_home : Option ℕ → Bool
-is_home None = true
-is_home (Some k) = false
-
--- whether a computation may make this handler step
-abbrev pub is_ready_at : Play → Core → ℕ → Option (Call × Moment) → Bool
-is_ready_at P core k None = false
-is_ready_at P core k (Some next) =
-    let v = P.node k in
-    let p = next.0.handler.micro.0 in
-    nat_le (core.private k v p) (core.local v p + weight (P.decl k) p) && (nat_lt (core.local v p) (core.private k v p) && (is_home (core.out v p) && not core.stopped))
-
--- whether a computation may enter
-abbrev pub is_ready : Play → Core → ℕ → Bool
-is_ready P core k = is_ready_at P core k (next_step (core.comp k))
-
--- the one before, if there is one, or the last where it is ready
-abbrev pub or_last : Option ℕ → Bool → ℕ → Option ℕ
-or_last (Some k) ready n = Some k
-or_last None ready n = if ready then Some n else None
-
--- the least of the first n that is ready
-abbrev pub first_ready : Play → Core → ℕ → Option ℕ
-first_ready P core zero = None
-first_ready P core (suc n) = or_last (first_ready P core n) (is_ready P core n) n
-
--- the least computation that may enter
-abbrev pub pick : Play → Core → Option ℕ
-pick P core = first_ready P core core.count
-
--- a pass over slots: each release that is enabled is made
-pub data Pass (P : Play) : Core → List (ℕ × ℕ) → Core → Type 0 where
-  Passed : (core : Core) → Pass P core [] core
-  Releases : (core new : Core) (k p : ℕ) (rest : List (ℕ × ℕ)) → CanRelease P core k p → Pass P (release P core k p) rest new → Pass P core ((k, p) ∷ rest) new
-  Skips : (core new : Core) (k p : ℕ) (rest : List (ℕ × ℕ)) → (CanRelease P core k p → ⊥) → Pass P core rest new → Pass P core ((k, p) ∷ rest) new
-
 -- the microprotocols that a declaration names
 abbrev pub named : Decl → List ℕ
 named (Decl.Set micros) = micros
 named (Decl.Bound bounds) = map (λ b. b.0) bounds
 named (Decl.Route vertices roots edges) = map (λ v. v.micro.0) vertices
-
--- the declared slots of the first n computations, in rising order
-abbrev pub slots : Play → ℕ → List (ℕ × ℕ)
-slots P zero = []
-slots P (suc n) = slots P n ++ map (λ p. (n, p)) (named (P.decl n))
 
 -- how many steps there may still be: twice the handler steps to come, one while the computation isn't out, one for each slot to release, one for the end
 abbrev pub not_out_by : ℕ → Option ℕ → ℕ

@@ -1,17 +1,12 @@
 //! The laws of the model, computations numbered from 0.
 ghost use Rattle.std.specs.Prelude.{◌≡◌, ℕ, ◌<◌, ◌≤◌, ◌⊎◌, List, length, slice_get, Some, None, true, false};
 ghost use Rattle.samoa_model.specs.declared.record.Ext.{Ext};
-ghost use Rattle.samoa_model.specs.declared.ids.HandlerId.{HandlerId};
 ghost use Rattle.samoa_model.specs.declared.script.Script.{Script};
 ghost use Rattle.samoa_model.specs.Allowed.{weight};
-ghost use Rattle.samoa_model.specs.Paths.{IsSafe};
 ghost use Rattle.samoa_serial.specs.SerialRun.{serial};
 ghost use Rattle.samoa_invariant.specs.Play.{Agree, Never, Play, attempts, is_bound, stood};
 ghost use Rattle.samoa_invariant.specs.Within.{IsWithin};
-ghost use Rattle.samoa_invariant.specs.State.{AllEnded, CanRelease, Core, GoesOnTo, IsEnabled, IsForward, IsLeastOpen, IsPicked, IsSettled, NothingOut, Pass, Reached, Step, WholeRun, cells_to, left, made_by, pick, slots};
-ghost use Rattle.samoa_invariant.specs.Parts.{SixParts};
-ghost use Rattle.samoa_invariant.specs.Settle.{settle};
-ghost use Rattle.samoa_invariant.specs.Walk.{is_safe};
+ghost use Rattle.samoa_invariant.specs.State.{AllEnded, CanRelease, Core, GoesOnTo, IsEnabled, IsForward, NothingOut, Reached, Step, WholeRun, cells_to, left, made_by};
 ghost use Rattle.samoa_invariant.specs.Inv.{AnswersSerially, HasSerialAnswer, Invariant, Meets, PlaysScript};
 
 /// Every declaration, of any form, meets what the core asks of it.
@@ -36,11 +31,6 @@ pub fn what_is_handed_on_stays_so()
 pub fn each_step_keeps_the_invariant()
     ensures kept { (play : Play) (core : Core) (step : Step) → Invariant play core → IsEnabled play core step → Invariant play (made_by play core step) }
     ensures reached { (play : Play) (core : Core) → Reached play core → Invariant play core }
-{}
-
-/// What the invariant says, in the words of the versions, the steps and the boxes.
-pub fn the_six_parts_hold()
-    ensures parts { (play : Play) (core : Core) → Reached play core → SixParts play core }
 {}
 
 /// A computation that has ended has the entries and the ending of its event run whole, alone, in its place, also while others are open.
@@ -70,25 +60,6 @@ pub fn every_play_has_a_whole_run()
     ensures run { (play : Play) (n : ℕ) → n ≤ play.most → cells_to play n ≤ play.most_cells → WholeRun play n }
 {}
 
-/// In a settled core with every box home, none is picked exactly where all have ended, and the least open computation is picked first.
-pub fn pick_is_none_exactly_at_the_end()
-    ensures ended { (play : Play) (core : Core) → Reached play core → core.stopped ≡ false → IsSettled play core → NothingOut core → pick play core ≡ None → AllEnded core }
-    ensures none { (play : Play) (core : Core) → Reached play core → AllEnded core → pick play core ≡ None }
-    ensures picked { (play : Play) (core : Core) (k : ℕ) → Reached play core → pick play core ≡ Some k → IsPicked play core k }
-    ensures least { (play : Play) (core : Core) (k : ℕ) → Reached play core → core.stopped ≡ false → IsSettled play core → NothingOut core → IsLeastOpen core k → IsPicked play core k }
-{}
-
-/// Settling, one pass of releases and one of ends, is a run of enabled steps, and leaves none of these enabled.
-pub fn settling_settles()
-    ensures goes { (play : Play) (core : Core) → GoesOnTo play core (settle play core) }
-    ensures settled { (play : Play) (core : Core) → Reached play core → IsSettled play (settle play core) }
-{}
-
-/// One pass of releases over the declared slots, computation by computation, leaves no release enabled.
-pub fn one_pass_releases_all()
-    ensures released { (play : Play) (core : Core) (new : Core) → Reached play core → Pass play core (slots play core.count) new → (k : ℕ) (p : ℕ) → CanRelease play new k p → ⊥ }
-{}
-
 /// The invariant speaks only of what was admitted: it holds of any play with the same first external events.
 pub fn later_events_do_not_matter()
     ensures kept { (play : Play) (other : Play) (core : Core) → Agree play other core.count → Invariant play core → Invariant other core }
@@ -98,10 +69,4 @@ pub fn later_events_do_not_matter()
 pub fn the_serial_run_is_that_of_the_script()
     ensures answers { (play : Play) (script : Script) (xs : List Ext) (core : Core) → PlaysScript play script xs → Reached play core → core.count ≤ length xs → (k : ℕ) (x : Ext) → k < core.count → slice_get xs k ≡ Some x → core.ended k ≡ true → AnswersSerially script xs core k x }
     ensures states { (play : Play) (script : Script) (xs : List Ext) (core : Core) → PlaysScript play script xs → Reached play core → core.count ≡ length xs → AllEnded core → (v : ℕ) (p : ℕ) → core.boxes v p ≡ (serial script xs).states v p }
-{}
-
-/// The bounded walk over the edges of a route tests exactly whether routes lead to a microprotocol.
-pub fn the_walk_is_exact()
-    ensures safe { (vertices : List HandlerId) (edges : List (ℕ × ℕ)) (p : ℕ) (from : HandlerId) → is_safe vertices edges p from ≡ true → IsSafe vertices edges p from }
-    ensures found { (vertices : List HandlerId) (edges : List (ℕ × ℕ)) (p : ℕ) (from : HandlerId) → IsSafe vertices edges p from → is_safe vertices edges p from ≡ true }
 {}

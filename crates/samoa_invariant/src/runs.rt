@@ -1,5 +1,6 @@
 //! The laws of a core whose journal is a run of a script over what was admitted. Computations are numbered from 1.
-ghost use Rattle.std.specs.Prelude.{◌≡◌, ℕ, ◌+◌, ◌-◌, ◌*◌, ◌<◌, ◌≤◌, ◌⊎◌, length, true, false};
+ghost use Rattle.std.specs.Prelude.{◌≡◌, ℕ, suc, ◌+◌, ◌-◌, ◌*◌, ◌<◌, ◌≤◌, ◌⊎◌, List, Option, Some, length, true, false};
+ghost use Rattle.std.specs.List.{All};
 ghost use Rattle.samoa_model.specs.declared.record.Ext.{Ext};
 ghost use Rattle.samoa_model.specs.declared.record.Step.{Step};
 ghost use Rattle.samoa_model.specs.declared.script.Script.{Script};
@@ -8,9 +9,11 @@ ghost use Rattle.samoa_model.specs.Range.{IsInRange};
 ghost use Rattle.samoa_model.specs.Scripts.{decl_of};
 ghost use Rattle.samoa_invariant.specs.Play.{Play, turns};
 ghost use Rattle.samoa_invariant.specs.Inv.{Invariant};
-ghost use Rattle.samoa_invariant.specs.Parts.{SixParts};
-ghost use Rattle.samoa_invariant.specs.State.{AllEnded, Core, NothingOut, Reached, admit, left, named};
-ghost use Rattle.samoa_invariant.specs.Runs.{ArePoints, GoesOn, IsDue, IsRun, IsServed, Trace, after_step, cleared, ext_at, opening_trace, play, state, with_clear, with_ext, with_step};
+ghost use Rattle.samoa_invariant.specs.Parts.{StandsSerially};
+ghost use Rattle.samoa_invariant.specs.Picking.{BringsBack, GoesOnItself, IsEnterOf, IsFirstToEnter, IsLeastUnended, IsOutTo, IsPick, NoEnterIsDue, StaysOut};
+ghost use Rattle.samoa_invariant.specs.Settling.{EndsAll, LeavesTheRest, ReleasesAll, Settles, with_steps};
+ghost use Rattle.samoa_invariant.specs.State.{AllEnded, Core, IsSettled, NothingOut, Reached, admit, left, named};
+ghost use Rattle.samoa_invariant.specs.Runs.{ArePoints, GoesOn, IsDue, IsRun, IsServed, Trace, after_step, cleared, ext_at, has_abandon, opening_trace, play, state, with_clear, with_ext, with_step};
 
 /// A run begins with nothing done, and grows by steps that are enabled and by clears where all have ended. What is
 /// admitted later changes nothing of it.
@@ -24,11 +27,12 @@ pub fn runs_grow()
     ensures ext_state { (t : Trace) (ext : Ext) → IsRun t → state (with_ext t ext) ≡ state t }
 {}
 
-/// Whatever the order of its steps, a run keeps the invariant.
+/// Whatever the order of its steps, a run keeps the invariant; `parts` says it in the words of the versions, the handler
+/// steps and the boxes.
 pub fn runs_keep_the_invariant()
     ensures reached { (t : Trace) → IsRun t → Reached (play t) (state t) }
     ensures kept { (t : Trace) → IsRun t → Invariant (play t) (state t) }
-    ensures parts { (t : Trace) → IsRun t → SixParts (play t) (state t) }
+    ensures parts { (t : Trace) → IsRun t → StandsSerially (play t) (state t) }
     ensures admitted { (t : Trace) → IsRun t → (state t).count ≤ length t.exts }
     ensures few { (t : Trace) → IsRun t → (state t).count ≤ 100000 }
 {}
@@ -47,6 +51,59 @@ pub fn runs_are_serial()
 pub fn runs_go_on()
     ensures onward { (t : Trace) → IsRun t → (state t).stopped ≡ false → AllEnded (state t) ⊎ ((step : Step) × GoesOn step × IsDue t step) }
     ensures fewer { (t : Trace) (step : Step) → IsRun t → GoesOn step → IsDue t step → left (play t) (state (with_step t step)) < left (play t) (state t) }
+{}
+
+/// Which releases are made and in which order, and which ends, is determined, and so is what settling makes of a run.
+pub fn settling_is_determined()
+    ensures releases { (t u v : Trace) → IsRun t → ReleasesAll t u → ReleasesAll t v → u ≡ v }
+    ensures ends { (t u v : Trace) → IsRun t → EndsAll t u → EndsAll t v → u ≡ v }
+    ensures settles { (t u v : Trace) → IsRun t → Settles t u → Settles t v → u ≡ v }
+{}
+
+/// A settled core has no release and no end due: the ends let no release become due. A run stays a run, nothing is moved
+/// but local versions and what has ended, and no more is left to do.
+pub fn settling_settles()
+    ensures settled { (t u : Trace) → IsRun t → Settles t u → IsSettled (play u) (state u) }
+    ensures settles { (t u : Trace) → IsRun t → Settles t u → LeavesTheRest t u }
+    ensures releases { (t u : Trace) → IsRun t → ReleasesAll t u → LeavesTheRest t u }
+    ensures ends { (t u : Trace) → IsRun t → EndsAll t u → LeavesTheRest t u }
+{}
+
+/// An Enter and an Abandon let no release and no end become due.
+pub fn handler_steps_begin_settled()
+    ensures enter { (t : Trace) (comp micro : ℕ) → IsRun t → IsSettled (play t) (state t) → IsSettled (play t) (state (with_step t (Step.Enter comp micro))) }
+    ensures abandon { (t : Trace) (comp : ℕ) → IsRun t → IsSettled (play t) (state t) → IsSettled (play t) (state (with_step t (Step.Abandon comp))) }
+{}
+
+/// A core is stopped exactly where a handler step was abandoned.
+pub fn an_abandon_stops()
+    ensures { (t : Trace) → (state t).stopped ≡ has_abandon t.journal }
+{}
+
+/// The least computation whose Enter is due is determined. Where no step was abandoned, no release and no end is due and
+/// nothing is out, there is none exactly where all have ended, and else it is the least that hasn't.
+pub fn pick_is_none_exactly_at_the_end()
+    ensures determined { (t : Trace) (a b : Option ℕ) → IsPick t a → IsPick t b → a ≡ b }
+    ensures ended { (t : Trace) → IsRun t → has_abandon t.journal ≡ false → IsSettled (play t) (state t) → NothingOut (state t) → NoEnterIsDue t → AllEnded (state t) }
+    ensures none { (t : Trace) → IsRun t → AllEnded (state t) → NoEnterIsDue t }
+    ensures least { (t : Trace) (comp : ℕ) → IsRun t → has_abandon t.journal ≡ false → IsSettled (play t) (state t) → NothingOut (state t) → IsLeastUnended t comp → IsFirstToEnter t comp }
+{}
+
+/// Where something is out, its Leave is due. Else, where no step was abandoned and not all have ended, a Release, the End
+/// or the Enter of the least computation that hasn't is due.
+pub fn a_step_is_due()
+    ensures leave { (t : Trace) (node micro k : ℕ) → IsRun t → (state t).out node micro ≡ Some k → IsDue t (Step.Leave (suc k)) }
+    ensures unended { (t : Trace) → AllEnded (state t) ⊎ ((comp : ℕ) × IsLeastUnended t comp) }
+    ensures goes_on { (t : Trace) (comp : ℕ) → IsRun t → NothingOut (state t) → has_abandon t.journal ≡ false → IsLeastUnended t comp → GoesOnItself t comp }
+{}
+
+/// What is out to a computation stays out, with its state and the calls of the computation, while none of the later steps
+/// brings it back; and none of them is an Enter of the computation.
+pub fn what_is_out_stays_out()
+    ensures stays { (t : Trace) (later : List Step) (comp micro : ℕ) → IsRun (with_steps t later) → IsOutTo t comp micro → All (λ step. BringsBack comp step → ⊥) later
+        → StaysOut t (with_steps t later) comp micro }
+    ensures once { (t : Trace) (later : List Step) (comp micro : ℕ) → IsRun (with_steps t later) → IsOutTo t comp micro → All (λ step. BringsBack comp step → ⊥) later
+        → All (λ step. IsEnterOf comp step → ⊥) later }
 {}
 
 /// An admission adds to the steps still to come at most twice its handler steps, one for each microprotocol that its

@@ -1,8 +1,11 @@
 pub mod Allowed
 pub mod Cells
 pub mod Entries
+pub mod Handlers
 pub mod NameRule
 pub mod Paths
 pub mod Range
+pub mod Routes
 pub mod Scripts
+pub mod Valid
 pub mod WordsLaws

@@ -3,6 +3,7 @@
 #![tactic(auto)]
 
 mod handler;
+mod handler_names;
 mod ids;
 mod listed;
 mod name;

@@ -2,6 +2,7 @@ pub mod Along
 pub mod Apart
 pub mod Decls
 pub mod Groups
+pub mod Defined
 pub mod Numbers
 pub mod Once
 pub mod Passed
@@ -10,4 +11,5 @@ pub mod Range
 pub mod Sizes
 pub mod Sound
 pub mod Twice
+pub mod Valid
 pub mod Vertices

@@ -1,8 +1,8 @@
 -- Names that are defined have numbers below the length of their list.
-use Rattle.std.proofs.Common.{◌≡◌, ℕ, suc, ◌+◌, ◌<◌, Bool, true, false, cond, List, [], ◌∷◌, length, get_or, map, ltb, bytes_eq, Option, Some, None, refl, sym, ap, subst, arith}
-use Rattle.std.specs.Prelude.{not, ◌||◌, option_map, option_and_then, unwrap_or, is_some}
+use Rattle.std.proofs.Common.{◌≡◌, ℕ, ◌<◌, Bool, true, List, length, get_or, map, ltb, bytes_eq, Option, Some, None, refl, sym, subst}
+use Rattle.std.specs.Prelude.{option_map, option_and_then, unwrap_or, is_some}
 use Rattle.std.specs.List.{list_any, position, position_or_len}
-use Rattle.std.proofs.lemmas.Bool.{ltb-true, lt-ltb}
+use Rattle.std.proofs.lemmas.Bool.{ltb-true}
 use Rattle.std.proofs.lemmas.List.{length-map}
 use Rattle.std.proofs.lemmas.Option.{cond_some}
 use Rattle.samoa_model.specs.declared.ids.HandlerId.{HandlerId}
@@ -11,18 +11,8 @@ use Rattle.samoa_grammar.specs.declared.draft.MicroDraft.{MicroDraft}
 use Rattle.samoa_grammar.specs.Names.{micro_part, handler_part}
 use Rattle.samoa_grammar.specs.Meaning.{number_in_names, handler_names, no_micro_draft, handler_in, handler_of}
 use Rattle.samoa_grammar.specs.Passes.{among, handler_unknown}
+use Rattle.samoa_grammar.proofs.Dedup.{place_below, position_found}
 use Rattle.samoa_naming.proofs.Sizes.{when_passes}
-
-below_if : (b rest : Bool) (n len : ℕ) → (b || rest) ≡ true → (rest ≡ true → n < len) → cond (not b) (1 + n) 0 < suc len
-below_if true rest n len some below = omega arith
-below_if false rest n len some below = let h : n < len = below some in omega arith
-
-pub found_below : {X : Type 0} (p : X → Bool) (xs : List X) → list_any p xs ≡ true → position_or_len p xs < length xs
-found_below p [] some = absurd (cc)
-found_below p (x ∷ xs) some = below_if (p x) (list_any p xs) (position_or_len p xs) (length xs) some (found_below p xs)
-
-pub number_is : {X : Type 0} (p : X → Bool) (xs : List X) → list_any p xs ≡ true → position p xs ≡ Some (position_or_len p xs)
-number_is p xs some = ap (λ b. cond b (Some (position_or_len p xs)) None) (lt-ltb (position_or_len p xs) (length xs) (found_below p xs some))
 
 pub position_within : {X : Type 0} (p : X → Bool) (xs : List X) (i : ℕ) → position p xs ≡ Some i → i < length xs
 position_within p xs i h =
@@ -32,7 +22,7 @@ position_within p xs i h =
 pub number_below : (names : List (List ℕ)) (name : List ℕ) → among names name ≡ None → number_in_names names name < length names
 number_below names name h =
     let some : list_any (bytes_eq name) names ≡ true = when_passes (list_any (bytes_eq name) names) _ h in
-    subst (λ o. unwrap_or o 0 < length names) (sym (number_is (bytes_eq name) names some)) (found_below (bytes_eq name) names some)
+    subst (λ o. unwrap_or o 0 < length names) (sym (position_found (bytes_eq name) names some)) (place_below (bytes_eq name) names some)
 
 -- ---- handlers
 
@@ -54,4 +44,24 @@ handler_below micros name h =
     let some : is_some (handler_in micros name) ≡ true = when_passes (is_some (handler_in micros name)) _ h in
     found_handler (position (bytes_eq (micro_part name)) names) (λ p. position (bytes_eq (handler_part name)) (handler_names (get_or micros p no_micro_draft))) (length micros)
     (λ p here. subst (λ n. p < n) (length-map micros (λ (m : MicroDraft). m.name)) (position_within (bytes_eq (micro_part name)) names p here))
+    some
+
+-- the number of a handler is below the number of handlers that its microprotocol has
+made_there : (size : ℕ → ℕ) (p : ℕ) (o : Option ℕ) → ((i : ℕ) → o ≡ Some i → i < size p) → is_some (option_map (at p) o) ≡ true
+    → (unwrap_or (option_map (at p) o) no_handler).index < size (unwrap_or (option_map (at p) o) no_handler).micro.0
+made_there size p None below some = absurd (cc)
+made_there size p (Some i) below some = below i refl
+
+found_there : (size : ℕ → ℕ) (o : Option ℕ) (f : ℕ → Option ℕ) → ((p i : ℕ) → f p ≡ Some i → i < size p) → is_some (option_and_then (λ p. option_map (at p) (f p)) o) ≡ true
+    → (unwrap_or (option_and_then (λ p. option_map (at p) (f p)) o) no_handler).index < size (unwrap_or (option_and_then (λ p. option_map (at p) (f p)) o) no_handler).micro.0
+found_there size None f below some = absurd (cc)
+found_there size (Some p) f below some = made_there size p (f p) (below p) some
+
+pub handler_there : (micros : List MicroDraft) (name : List ℕ) → handler_unknown micros name ≡ None
+    → (handler_of micros name).index < length (handler_names (get_or micros (handler_of micros name).micro.0 no_micro_draft))
+handler_there micros name h =
+    let own : ℕ → List (List ℕ) = λ p. handler_names (get_or micros p no_micro_draft) in
+    let some : is_some (handler_in micros name) ≡ true = when_passes (is_some (handler_in micros name)) _ h in
+    found_there (λ p. length (own p)) (position (bytes_eq (micro_part name)) (map (λ (m : MicroDraft). m.name) micros)) (λ p. position (bytes_eq (handler_part name)) (own p))
+    (λ p i here. position_within (bytes_eq (handler_part name)) (own p) i here)
     some

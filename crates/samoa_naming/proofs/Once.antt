@@ -7,7 +7,8 @@ use Rattle.samoa_model.specs.declared.ids.HandlerId.{HandlerId}
 use Rattle.samoa_model.specs.Allowed.{same_handler}
 use Rattle.samoa_grammar.specs.declared.draft.MicroDraft.{MicroDraft}
 use Rattle.samoa_grammar.specs.declared.draft.EdgeDraft.{EdgeDraft}
-use Rattle.samoa_grammar.specs.Meaning.{once_after, once, same_edge, edges_after, handler_of}
+use Rattle.samoa_model.specs.Routes.{once_after, once}
+use Rattle.samoa_grammar.specs.Meaning.{same_edge, edges_after, handler_of}
 use Rattle.samoa_naming.specs.Routes.{with_handler, with_edge, ends_of}
 
 -- for any list that keeps what isn't there before

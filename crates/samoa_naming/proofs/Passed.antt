@@ -1,14 +1,19 @@
 -- What a draft keeps to that passes.
-use Rattle.std.proofs.Common.{◌≡◌, List, [], ◌∷◌, codes, Option, None, sym, ◌∙◌}
+use Rattle.std.proofs.Common.{◌≡◌, List, [], ◌∷◌, map, codes, Option, None, sym, ◌∙◌}
 use Rattle.std.specs.List.{All}
 use Rattle.std.proofs.lemmas.List.Elements.{All-nil, All-cons}
 use Rattle.samoa_grammar.specs.declared.fault.WalkFault.{WalkFault}
+use Rattle.samoa_model.specs.declared.script.CodeDef.{CodeDef}
+use Rattle.samoa_grammar.specs.declared.draft.MicroDraft.{MicroDraft}
 use Rattle.samoa_grammar.specs.declared.draft.DeclDraft.{DeclDraft}
+use Rattle.samoa_grammar.specs.declared.draft.EventDraft.{EventDraft}
+use Rattle.samoa_grammar.specs.declared.draft.TableDraft.{TableDraft}
+use Rattle.samoa_grammar.specs.declared.draft.ChangeDraft.{ChangeDraft}
 use Rattle.samoa_grammar.specs.declared.draft.DoDraft.{DoDraft}
 use Rattle.samoa_grammar.specs.declared.draft.CrashDraft.{CrashDraft}
 use Rattle.samoa_grammar.specs.declared.draft.Draft.{Draft}
 use Rattle.samoa_grammar.specs.Walks.{◌then◌, first_along}
-use Rattle.samoa_grammar.specs.Passes.{body_twice, micro_unknown, body_unknown, event_unknown, change_unknown, cause_unknown, ports_fault, vertices_fault, node_fault, loss_total, tick_fault, kinds_fault, twice_fault, unknown_fault, totals_fault}
+use Rattle.samoa_grammar.specs.Passes.{twice, body_twice, micro_unknown, body_unknown, event_unknown, change_unknown, cause_unknown, ports_fault, vertices_fault, node_fault, loss_total, tick_fault, kinds_fault, twice_fault, unknown_fault, totals_fault}
 use Rattle.samoa_naming.specs.Groups.{micros_twice, handlers_twice, decls_twice, events_twice, changes_twice, bodies_twice, bound_twice, rebound_twice, tables_twice, micros_unknown, bodies_unknown, events_unknown, changes_unknown, causes_unknown, ports_missing, codes_outside, vertices_over, does_outside, losses_outside, crashes_outside, ticks_over, kinds_over, micro_outside}
 use Rattle.samoa_naming.proofs.Along.{then_none}
 use Rattle.samoa_naming.proofs.Groups.{twice_by_groups, unknown_by_groups, totals_by_groups}
@@ -61,6 +66,38 @@ totals_parts : (x : Draft) → totals_fault x ≡ None → (ports_missing x ≡ 
 totals_parts x h = parts_8 (ports_missing x) (codes_outside x) (vertices_over x) (does_outside x) (losses_outside x) (crashes_outside x) (ticks_over x) (kinds_over x) (sym (totals_by_groups x) ∙ h)
 
 -- ---- each part by itself
+
+pub micros_apart : (x : Draft) → twice_fault x ≡ None → twice (map (λ (m : MicroDraft). m.name) x.micros) ≡ None
+unfolding micros_twice
+micros_apart x h = (twice_parts x h).0
+
+pub handlers_apart : (x : Draft) → twice_fault x ≡ None → All (λ (m : MicroDraft). twice (map (λ (h : CodeDef). h.name) m.handlers) ≡ None) x.micros
+unfolding handlers_twice
+handlers_apart x h = along_all (λ (m : MicroDraft). twice (map (λ (h : CodeDef). h.name) m.handlers)) x.micros (twice_parts x h).1
+
+pub decls_apart : (x : Draft) → twice_fault x ≡ None → twice (map (λ (d : DeclDraft). d.name) x.decls) ≡ None
+unfolding decls_twice
+decls_apart x h = (twice_parts x h).2
+
+pub events_apart : (x : Draft) → twice_fault x ≡ None → twice (map (λ (e : EventDraft). e.name) x.events) ≡ None
+unfolding events_twice
+events_apart x h = (twice_parts x h).3
+
+pub changes_apart : (x : Draft) → twice_fault x ≡ None → twice (map (λ (c : ChangeDraft). c.name) x.changes) ≡ None
+unfolding changes_twice
+changes_apart x h = (twice_parts x h).4
+
+pub lists_apart : (x : Draft) → twice_fault x ≡ None → All (λ (e : EventDraft). twice e.handlers ≡ None) x.events
+unfolding bound_twice
+lists_apart x h = along_all (λ (e : EventDraft). twice e.handlers) x.events (twice_parts x h).6
+
+pub rebound_apart : (x : Draft) → twice_fault x ≡ None → All (λ (c : ChangeDraft). twice (map (λ (t : TableDraft). t.event) c.table) ≡ None) x.changes
+unfolding rebound_twice
+rebound_apart x h = along_all (λ (c : ChangeDraft). twice (map (λ (t : TableDraft). t.event) c.table)) x.changes (twice_parts x h).7
+
+pub tables_apart : (x : Draft) → twice_fault x ≡ None → All (λ (c : ChangeDraft). first_along (λ (t : TableDraft). twice t.handlers) c.table ≡ None) x.changes
+unfolding tables_twice
+tables_apart x h = along_all (λ (c : ChangeDraft). first_along (λ (t : TableDraft). twice t.handlers) c.table) x.changes (twice_parts x h).8
 
 pub bodies_apart : (x : Draft) → twice_fault x ≡ None → All (λ y. (λ (d : DeclDraft). body_twice d.body) y ≡ None) x.decls
 unfolding bodies_twice

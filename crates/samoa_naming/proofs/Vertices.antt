@@ -1,92 +1,37 @@
 -- The roots and the ends of a route's edges are among its vertices.
-use Rattle.std.proofs.Common.{◌≡◌, ℕ, ◌<◌, Bool, true, false, cond, List, [], ◌∷◌, ◌++◌, length, eqb, refl, sym, ap, ap₂, ◌∙◌, subst}
-use Rattle.std.specs.Prelude.{◌||◌, ◌&&◌, unwrap_or}
+use Rattle.std.proofs.Common.{◌≡◌, ℕ, ◌<◌, ◌≤◌, Bool, true, false, List, [], ◌∷◌, ◌++◌, length, refl, sym, ap, ◌∙◌, subst}
+use Rattle.std.specs.Prelude.{◌||◌, unwrap_or}
 use Rattle.std.specs.List.{All, list_any, flat_map}
-use Rattle.std.proofs.lemmas.Bool.{and_parts, eqb-true}
-use Rattle.std.proofs.Common.{eq-eqb}
 use Rattle.std.proofs.lemmas.List.Elements.{All-nil, All-cons, All-head, All-tail}
 use Rattle.std.proofs.lemmas.List.Folds.{list_any-append}
 use Rattle.samoa_model.specs.declared.ids.HandlerId.{HandlerId}
 use Rattle.samoa_model.specs.Allowed.{same_handler}
 use Rattle.samoa_grammar.specs.declared.draft.MicroDraft.{MicroDraft}
 use Rattle.samoa_grammar.specs.declared.draft.EdgeDraft.{EdgeDraft}
-use Rattle.samoa_grammar.specs.Meaning.{once_after, once, same_edge, edges_after, vertex_of, handler_of}
+use Rattle.samoa_model.specs.Routes.{once}
+use Rattle.samoa_grammar.specs.Meaning.{same_edge, edges_after, vertex_of, handler_of}
 use Rattle.samoa_naming.specs.Routes.{ends_of}
-use Rattle.samoa_naming.proofs.Numbers.{found_below, number_is}
-
--- ---- equal handlers
-
-same_itself : (h : HandlerId) → same_handler h h ≡ true
-same_itself h = ap₂ (λ a b. a && b) (eq-eqb h.micro.0 h.micro.0 refl) (eq-eqb h.index h.index refl)
-
-abbrev made : ℕ → ℕ → HandlerId
-made m i = record { micro = record { 0 = m }; index = i }
-
-same_equal : (g h : HandlerId) → same_handler g h ≡ true → g ≡ h
-same_equal g h e =
-    let parts = and_parts (eqb g.micro.0 h.micro.0) (eqb g.index h.index) e in
-    ap₂ made (eqb-true g.micro.0 h.micro.0 parts.0) (eqb-true g.index h.index parts.1)
+use Rattle.samoa_grammar.proofs.Dedup.{same_handlers, place_below, position_found, once_is, edges_is, dedup_all, dedup_kept, length_dedup}
 
 abbrev has : List HandlerId → HandlerId → Bool
 has hs h = list_any (same_handler h) hs
 
--- ---- what each of a list is, each of the list of its first ones is
-
-all_if : {X : Type 0} (P : X → Type 0) (b : Bool) (skipped kept : List X) → All P skipped → All P kept → All P (cond b skipped kept)
-all_if P true skipped kept p q = p
-all_if P false skipped kept p q = q
-
-once_after_all : (P : HandlerId → Type 0) (hs before : List HandlerId) → All P hs → All P (once_after before hs)
-once_after_all P [] before each = All-nil P
-once_after_all P (h ∷ hs) before each =
-    let rest = All-tail P h hs each in
-    all_if P (has before h) (once_after before hs) (h ∷ once_after (before ++ h ∷ []) hs) (once_after_all P hs before rest)
-    (All-cons P h (once_after (before ++ h ∷ []) hs) (All-head P h hs each) (once_after_all P hs (before ++ h ∷ []) rest))
+-- ---- the list of the first ones
 
 pub once_all : (P : HandlerId → Type 0) (hs : List HandlerId) → All P hs → All P (once hs)
-once_all P hs each = once_after_all P hs [] each
-
-edges_after_all : (P : (ℕ × ℕ) → Type 0) (es before : List (ℕ × ℕ)) → All P es → All P (edges_after before es)
-edges_after_all P [] before each = All-nil P
-edges_after_all P (e ∷ es) before each =
-    let rest = All-tail P e es each in
-    all_if P (list_any (same_edge e) before) (edges_after before es) (e ∷ edges_after (before ++ e ∷ []) es) (edges_after_all P es before rest)
-    (All-cons P e (edges_after (before ++ e ∷ []) es) (All-head P e es each) (edges_after_all P es (before ++ e ∷ []) rest))
+once_all P hs each = subst (All P) (sym (once_is [] hs)) (dedup_all P same_handler [] hs each)
 
 pub edges_all : (P : (ℕ × ℕ) → Type 0) (es : List (ℕ × ℕ)) → All P es → All P (edges_after [] es)
-edges_all P es each = edges_after_all P es [] each
+edges_all P es each = subst (All P) (sym (edges_is [] es)) (dedup_all P same_edge [] es each)
 
--- ---- the first ones have each of the list
+pub once_few : (hs : List HandlerId) → length (once hs) ≤ length hs
+once_few hs = subst (λ l. length l ≤ length hs) (sym (once_is [] hs)) (length_dedup same_handler [] hs)
 
-joined_or : (a e r : Bool) → (a || (e || r)) ≡ ((a || (e || false)) || r)
-joined_or true e r = refl
-joined_or false true r = refl
-joined_or false false r = refl
-
-more_has : (before : List HandlerId) (g h : HandlerId) (r : Bool) → (has (before ++ g ∷ []) h || r) ≡ (has before h || (same_handler h g || r))
-more_has before g h r =
-    ap (λ b. b || r) (list_any-append (same_handler h) before (g ∷ [])) ∙ sym (joined_or (has before h) (same_handler h g) r)
-
--- an item that is skipped stands before
-skipped_has : (e a r : Bool) → (a || (e || r)) ≡ true → (e ≡ true → a ≡ true) → (a || r) ≡ true
-skipped_has true a r some seen = ap (λ b. b || r) (seen refl)
-skipped_has false a r some seen = some
-
-step_has : (b : Bool) (before skipped kept : List HandlerId) (g h : HandlerId) → (b ≡ true → (has before h || has skipped h) ≡ true) → (has before h || (same_handler h g || has kept h)) ≡ true
-    → (has before h || has (cond b skipped (g ∷ kept)) h) ≡ true
-step_has true before skipped kept g h p q = p refl
-step_has false before skipped kept g h p q = q
-
-once_after_has : (hs before : List HandlerId) (h : HandlerId) → (has before h || has hs h) ≡ true → (has before h || has (once_after before hs) h) ≡ true
-once_after_has [] before h some = some
-once_after_has (g ∷ hs) before h some =
-    let later = once_after_has hs (before ++ g ∷ []) h (more_has before g h (has hs h) ∙ some) in
-    step_has (has before g) before (once_after before hs) (once_after (before ++ g ∷ []) hs) g h
-    (λ seen. once_after_has hs before h (skipped_has (same_handler h g) (has before h) (has hs h) some (λ e. ap (has before) (same_equal h g e) ∙ seen)))
-    (sym (more_has before g h (has (once_after (before ++ g ∷ []) hs) h)) ∙ later)
+pub edges_few : (es : List (ℕ × ℕ)) → length (edges_after [] es) ≤ length es
+edges_few es = subst (λ l. length l ≤ length es) (sym (edges_is [] es)) (length_dedup same_edge [] es)
 
 once_has : (hs : List HandlerId) (h : HandlerId) → has hs h ≡ true → has (once hs) h ≡ true
-once_has hs h some = once_after_has hs [] h some
+once_has hs h some = ap (list_any (same_handler h)) (once_is [] hs) ∙ dedup_kept same_handler same_handlers [] hs h ∙ some
 
 or_right : (a b : Bool) → b ≡ true → (a || b) ≡ true
 or_right true b h = refl
@@ -99,10 +44,10 @@ or_left false b h = cc
 each_of : (Q : HandlerId → Type 0) (hs : List HandlerId) → ((h : HandlerId) → has hs h ≡ true → Q h) → All Q hs
 each_of Q [] q = All-nil Q
 each_of Q (g ∷ hs) q =
-    All-cons Q g hs (q g (or_left (same_handler g g) (has hs g) (same_itself g))) (each_of Q hs (λ h some. q h (or_right (same_handler h g) (has hs h) some)))
+    All-cons Q g hs (q g (or_left (same_handler g g) (has hs g) (same_handlers.itself g))) (each_of Q hs (λ h some. q h (or_right (same_handler h g) (has hs h) some)))
 
 vertex_below : (vs : List HandlerId) (h : HandlerId) → has vs h ≡ true → vertex_of vs h < length vs
-vertex_below vs h some = subst (λ o. unwrap_or o 0 < length vs) (sym (number_is (same_handler h) vs some)) (found_below (same_handler h) vs some)
+vertex_below vs h some = subst (λ o. unwrap_or o 0 < length vs) (sym (position_found (same_handler h) vs some)) (place_below (same_handler h) vs some)
 
 -- ---- routes
 
@@ -124,19 +69,25 @@ from_ends micros P (e ∷ es) each =
     let later = All-tail P a (b ∷ rest) each in
     All-cons Both e es (All-head P a (b ∷ rest) each, All-head P b rest later) (from_ends micros P es (All-tail P b rest later))
 
+-- what each vertex is, each root is
+pub roots_are : (hs others : List HandlerId) (Q : HandlerId → Type 0) → ((h : HandlerId) → has (once (hs ++ others)) h ≡ true → Q h) → All Q (once hs)
+roots_are hs others Q each =
+    once_all Q hs (each_of Q hs (λ h some. each h (once_has (hs ++ others) h (list_any-append (same_handler h) hs others ∙ or_left (has hs h) (has others h) some))))
+
+-- and so are the ends of each edge
+pub ends_are : (micros : List MicroDraft) (hs : List HandlerId) (es : List EdgeDraft) (Q : HandlerId → Type 0) → ((h : HandlerId) → has (once (hs ++ flat_map (ends_of micros) es)) h ≡ true → Q h)
+    → All (λ (e : EdgeDraft). Q (handler_of micros e.from) × Q (handler_of micros e.to)) es
+ends_are micros hs es Q each =
+    let others = flat_map (ends_of micros) es in
+    from_ends micros Q es
+    (each_of Q others (λ h some. each h (once_has (hs ++ others) h (list_any-append (same_handler h) hs others ∙ or_right (has hs h) (has others h) some))))
+
 -- the numbers of the roots
 pub roots_below : (hs others : List HandlerId) → All (λ h. vertex_of (once (hs ++ others)) h < length (once (hs ++ others))) (once hs)
-roots_below hs others =
-    let vs = once (hs ++ others) in
-    once_all (λ h. vertex_of vs h < length vs) hs
-    (each_of (λ h. vertex_of vs h < length vs) hs (λ h some. vertex_below vs h (once_has (hs ++ others) h (list_any-append (same_handler h) hs others ∙ or_left (has hs h) (has others h) some))))
+roots_below hs others = let vs = once (hs ++ others) in roots_are hs others (λ h. vertex_of vs h < length vs) (vertex_below vs)
 
 -- the numbers of the ends of edges
 pub ends_below : (micros : List MicroDraft) (hs : List HandlerId) (es : List EdgeDraft)
     → All (λ (e : EdgeDraft). (vertex_of (once (hs ++ flat_map (ends_of micros) es)) (handler_of micros e.from) < length (once (hs ++ flat_map (ends_of micros) es)))
     × (vertex_of (once (hs ++ flat_map (ends_of micros) es)) (handler_of micros e.to) < length (once (hs ++ flat_map (ends_of micros) es)))) es
-ends_below micros hs es =
-    let others = flat_map (ends_of micros) es in
-    let vs = once (hs ++ others) in
-    from_ends micros (λ h. vertex_of vs h < length vs) es
-    (each_of (λ h. vertex_of vs h < length vs) others (λ h some. vertex_below vs h (once_has (hs ++ others) h (list_any-append (same_handler h) hs others ∙ or_right (has hs h) (has others h) some))))
+ends_below micros hs es = let vs = once (hs ++ flat_map (ends_of micros) es) in ends_are micros hs es (λ h. vertex_of vs h < length vs) (vertex_below vs)

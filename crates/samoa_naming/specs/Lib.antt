@@ -2,4 +2,3 @@ pub mod Finds
 pub mod Groups
 pub mod Routes
 pub mod Sizes
-pub mod Sound

@@ -2,7 +2,8 @@
 ghost use Rattle.std.specs.Prelude.{◌≡◌, ◌<◌, ◌≤◌, length, map, bytes_eq, get_or, option_map, IfSome};
 ghost use Rattle.std.specs.List.{position as place_of, All};
 ghost use Rattle.samoa_grammar.specs.Names.{micro_part, handler_part};
-ghost use Rattle.samoa_grammar.specs.Meaning.{handlers_of_kind, no_micro_draft, handler_in as named_in, handler_of};
+ghost use Rattle.samoa_model.specs.Handlers.{handlers_of_kind};
+ghost use Rattle.samoa_grammar.specs.Meaning.{no_micro_draft, handler_in as named_in, handler_of};
 ghost use Rattle.samoa_grammar.specs.Passes.{handler_unknown};
 ghost use Rattle.samoa_grammar.specs.Walks.{first_along};
 ghost use Rattle.samoa_form.specs.Limits.{HasMicroLimits};
@@ -47,17 +48,7 @@ fn place_in_kind(kind: Kind, name: &str) -> Option<usize>
     ensures value { result ≡ place_of (bytes_eq name.now) (handlers_of_kind kind) }
     ensures below { IfSome result (λ i. i < 5) }
 {
-    match kind {
-        Kind::Prog => None,
-        Kind::Link => place(&["send", "recv"], name),
-        Kind::Fd => place(&["beat", "heard"], name),
-        Kind::Rbcast => place(&["cast", "recv"], name),
-        Kind::Cons => place(&["propose", "recv", "decide", "advance", "suspect"], name),
-        Kind::Abcast => place(&["cast", "heard", "decided"], name),
-        Kind::Seqcast => place(&["cast", "recv"], name),
-        Kind::Repl => place(&["cast", "deliver", "switched"], name),
-        Kind::Views => place(&["ask", "install"], name),
-    }
+    place(kind.handlers(), name)
 }
 
 /// The number of a handler of a microprotocol.

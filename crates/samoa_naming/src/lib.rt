@@ -13,5 +13,5 @@ mod totals;
 mod undefined;
 
 pub use checking::check_names;
-pub use laws::{held_range, held_totals};
+pub use laws::passed_is_valid;
 pub use resolving::resolve;

@@ -2,7 +2,8 @@
 ghost use Rattle.std.specs.Prelude.{◌≡◌, ◌<◌, ◌≤◌, [], length, map, IfSome, OnOk, IfOk};
 ghost use Rattle.std.specs.List.{All, list_any, position};
 ghost use Rattle.samoa_model.specs.Allowed.{same_handler};
-ghost use Rattle.samoa_grammar.specs.Meaning.{once, handler_of, vertices_of, vertex_of, same_edge, edge_numbers, edges_after};
+ghost use Rattle.samoa_model.specs.Routes.{once};
+ghost use Rattle.samoa_grammar.specs.Meaning.{handler_of, vertices_of, vertex_of, same_edge, edge_numbers, edges_after};
 ghost use Rattle.samoa_form.specs.Limits.{HasMicroLimits};
 ghost use Rattle.samoa_naming.specs.Routes.{with_handler, with_edge};
 

@@ -2,8 +2,9 @@
 ghost use Rattle.std.specs.Prelude.{◌≡◌, ◌<◌, ◌≤◌, length, count_by};
 ghost use Rattle.std.specs.List.{All};
 ghost use Rattle.samoa_model.specs.contracts.setup.KindPartialEq.TheImpl.{ghosts};
+ghost use Rattle.samoa_model.specs.Range.{ports_needed as needed};
 ghost use Rattle.samoa_grammar.specs.declared.draft.MicroDraft.{MicroDraft as MicroValue};
-ghost use Rattle.samoa_grammar.specs.Passes.{ports_needed as needed, ports_fault, is_instr_of, instr_fault, vertices_fault, node_fault, loss_total, tick_fault, totals_fault};
+ghost use Rattle.samoa_grammar.specs.Passes.{ports_fault, is_instr_of, instr_fault, vertices_fault, node_fault, loss_total, tick_fault, totals_fault};
 ghost use Rattle.samoa_grammar.specs.Walks.{first_along};
 ghost use Rattle.samoa_form.specs.Limits.{HasMicroLimits, HasLimits};
 ghost use Rattle.samoa_naming.specs.Finds.{Finds};

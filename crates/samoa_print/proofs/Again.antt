@@ -32,17 +32,18 @@ use Rattle.samoa_grammar.specs.Instrs.{is_instr, instr_of}
 use Rattle.samoa_grammar.specs.Walks.{◌then◌}
 use Rattle.samoa_grammar.specs.Tests.{object_fault, required, optional, form_test, name_fault, items_fault, list_fault}
 use Rattle.samoa_grammar.specs.Forms.{numbers_of, texts_of, code_fault, code_of, kind_named, kind_in, is_kind, kind_or_prog, is_prog, has_handlers, micro_keys, handlers_fault, micro_fault, handlers_of, micro_of, bound_fault, bound_of, is_edge, edge_of, decl_keys, decl_fault, decl_of, event_fault, event_of, table_fault, table_of, change_fault, change_of, do_fault, do_of, loss_fault, loss_of, crash_fault, crash_of, script_keys, form_of_all, draft_of}
-use Rattle.samoa_print.specs.Texts.{micro_text, decl_text, event_text, change_text, handler_text, kind_text}
+use Rattle.samoa_model.specs.Handlers.{handler_text}
+use Rattle.samoa_print.specs.Texts.{micro_text, decl_text, event_text, change_text, kind_text}
 use Rattle.samoa_print.specs.Canonical.{number_tree, list_tree, instr_tree, code_tree, micro_members, micro_tree, bound_tree, edge_tree, decl_members, decl_tree, event_tree, table_tree, change_tree, do_members, do_tree, loss_tree, crash_tree, tree_of}
 use Rattle.samoa_print.proofs.Back.{handlers_back, micro_back, bound_back, vertex_text, edge_back, body_back, decl_back, event_back, table_back, change_back, cause_back, do_back, loss_back, crash_back, draft_back}
 use Rattle.samoa_print.proofs.Parts.{none_then, Each, each_map, each_more, each_all, IsNamed, IsHandlerNamed, IsWithin, keys_pass, name_passes, number_again, from_again, items_again, objects_again, of_again}
 use Rattle.samoa_print.proofs.Instrs.{IsProper, is_instr_again, instr_of_again}
-use Rattle.samoa_print.proofs.Forms.{AreNames, AreHandlers, AreAll, CodeForm, HandlersForm, MicroForm, BoundForm, EdgeForm, BodyForm, DeclForm, EventForm, TableForm, ChangeForm, CauseForm, DoForm, DraftForm}
+use Rattle.samoa_print.proofs.Forms.{AreListed, AreHandlers, AreAll, CodeForm, HandlersForm, MicroForm, BoundForm, EdgeForm, BodyForm, DeclForm, EventForm, TableForm, ChangeForm, CauseForm, DoForm, DraftForm}
 
 -- ---- lists
 
 -- names, seen through the text of each
-names_again : {X : Type 0} (text : X → List ℕ) (least most : ℕ) (key : List ℕ) (xs : List X) → AreNames least most (map text xs) → items_fault least most is_name key (list_tree (λ x. string (text x)) xs) ≡ None
+names_again : {X : Type 0} (text : X → List ℕ) (least most : ℕ) (key : List ℕ) (xs : List X) → AreListed least most (map text xs) → items_fault least most is_name key (list_tree (λ x. string (text x)) xs) ≡ None
 names_again text least most key xs h =
     items_again least most is_name key (λ x. string (text x)) xs (each_map IsNamed text xs h.each)
     (rw (length-map xs text) at h.some) (rw (length-map xs text) at h.few)

@@ -31,7 +31,8 @@ use Rattle.samoa_grammar.specs.declared.draft.DoDraft.{DoDraft}
 use Rattle.samoa_grammar.specs.declared.draft.LossDraft.{LossDraft}
 use Rattle.samoa_grammar.specs.declared.draft.CrashDraft.{CrashDraft}
 use Rattle.samoa_grammar.specs.declared.draft.Draft.{Draft}
-use Rattle.samoa_print.specs.Texts.{micro_text, decl_text, event_text, change_text, handler_text}
+use Rattle.samoa_model.specs.Handlers.{handler_text}
+use Rattle.samoa_print.specs.Texts.{micro_text, decl_text, event_text, change_text}
 
 abbrev pub handlers_back : Bool → List CodeDef → List CodeDef
 handlers_back true handlers = handlers

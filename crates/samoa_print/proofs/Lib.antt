@@ -1,11 +1,9 @@
 pub mod Again
 pub mod Back
-pub mod Dedup
+pub mod Formed
 pub mod Forms
-pub mod Handlers
 pub mod Instrs
 pub mod Named
 pub mod Parts
 pub mod Plain
 pub mod Round
-pub mod Routes

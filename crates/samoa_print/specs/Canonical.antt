@@ -4,6 +4,7 @@ use Rattle.std.specs.Prelude.{ℕ, Bool, true, false, List, [], ◌∷◌, map, 
 use Rattle.serde_json.specs.Data.{Data, number, unsigned, string, array, object, Members, member, no_members}
 use Rattle.serde_json.specs.View.{items_of}
 use Rattle.samoa_model.specs.Allowed.{no_handler}
+use Rattle.samoa_model.specs.Handlers.{handler_text}
 use Rattle.samoa_model.specs.declared.ids.EventId.{EventId}
 use Rattle.samoa_model.specs.declared.ids.ChangeId.{ChangeId}
 use Rattle.samoa_model.specs.declared.ids.HandlerId.{HandlerId}
@@ -24,7 +25,7 @@ use Rattle.samoa_model.specs.declared.script.LossDef.{LossDef}
 use Rattle.samoa_model.specs.declared.script.CrashDef.{CrashDef}
 use Rattle.samoa_model.specs.declared.script.Script.{Script}
 use Rattle.samoa_grammar.specs.Forms.{is_prog}
-use Rattle.samoa_print.specs.Texts.{micro_text, decl_text, event_text, change_text, handler_text, kind_text, place_text}
+use Rattle.samoa_print.specs.Texts.{micro_text, decl_text, event_text, change_text, kind_text, place_text}
 
 abbrev pub number_tree : ℕ → Data
 number_tree n = number (unsigned n)

@@ -1,4 +1,3 @@
 pub mod Canonical
 pub mod Objects
 pub mod Texts
-pub mod Valid

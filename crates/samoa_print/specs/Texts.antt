@@ -1,17 +1,13 @@
 -- The texts of what a script has as numbers. A number that names nothing has the empty name.
-use Rattle.std.specs.Prelude.{ℕ, List, [], ◌++◌, ◌==◌, if◌then◌else◌, map, codes, get_or}
+use Rattle.std.specs.Prelude.{ℕ, List, ◌==◌, if◌then◌else◌, codes}
 use Rattle.samoa_model.specs.declared.ids.EventId.{EventId}
 use Rattle.samoa_model.specs.declared.ids.ChangeId.{ChangeId}
-use Rattle.samoa_model.specs.declared.ids.HandlerId.{HandlerId}
 use Rattle.samoa_model.specs.declared.setup.Kind.{Kind}
 use Rattle.samoa_model.specs.declared.setup.Kind.TheVariants.{Prog, Link, Fd, Rbcast, Cons, Abcast, Seqcast, Repl, Views}
 use Rattle.samoa_model.specs.declared.setup.Place.{Place}
 use Rattle.samoa_model.specs.declared.setup.Place.TheVariants.{Reg, Local}
-use Rattle.samoa_model.specs.declared.script.CodeDef.{CodeDef}
-use Rattle.samoa_model.specs.declared.script.MicroDef.{MicroDef}
 use Rattle.samoa_model.specs.declared.script.Script.{Script}
 use Rattle.samoa_model.specs.Scripts.{micro_at, decl_at, event_at, change_at}
-use Rattle.samoa_grammar.specs.Meaning.{handlers_of_kind}
 
 abbrev pub micro_text : Script → ℕ → List ℕ
 micro_text script p = (micro_at script p).name
@@ -24,15 +20,6 @@ event_text script event = (event_at script event.0).name
 
 abbrev pub change_text : Script → ChangeId → List ℕ
 change_text script change = (change_at script change.0).name
-
--- the handlers of a microprotocol, in the order of their numbers: those of its script, and those of its kind
-abbrev pub names_of_handlers : MicroDef → List (List ℕ)
-names_of_handlers m = map (λ (h : CodeDef). h.name) m.handlers ++ handlers_of_kind m.kind
-
--- the name of a handler, after that of its microprotocol and a dot
-unfoldable pub handler_text : Script → HandlerId → List ℕ
-handler_text script handler =
-    micro_text script handler.micro.0 ++ codes "." ++ get_or (names_of_handlers (micro_at script handler.micro.0)) handler.index []
 
 abbrev pub kind_text : Kind → List ℕ
 kind_text Prog = codes "prog"

@@ -6,8 +6,8 @@ ghost use Rattle.serde_json.specs.Written.{compact_text};
 ghost use Rattle.samoa_grammar.specs.Tree.{IsJson};
 ghost use Rattle.samoa_grammar.specs.Held.{walk_fault, script_meant, Holds};
 ghost use Rattle.samoa_model.specs.declared.script.Script.{Script as ScriptValue};
+ghost use Rattle.samoa_model.specs.Valid.{IsValid};
 ghost use Rattle.samoa_print.specs.Canonical.{tree_of};
-ghost use Rattle.samoa_print.specs.Valid.{IsValid};
 
 mod cells;
 mod code;
@@ -29,7 +29,7 @@ use whole::{script_value, tree_text};
 
 /// The canonical text of a script: one JSON object with no space, in which every optional key stands with its value,
 /// keys stand in byte order and lists in script order. It can be longer than the text that the script was read
-/// from. A text of at most 1,048,576 bytes is read as the same script again.
+/// from. Where the script is valid, a text of at most 1,048,576 bytes is read as the same script again.
 #[tactic(auto, using(crate::proofs::Plain::has_no_float, crate::proofs::Plain::is_flat))]
 pub fn print_script(alloc: Global, script: &Script) -> Result<Vec<u8>, NoMemory>
     ensures text { IfOk result (λ bytes. bytes.items ≡ compact_text (tree_of script.now)) }

@@ -1,9 +1,10 @@
 //! The lines of a computation's entries.
 ghost use Rattle.std.specs.Prelude.{◌≡◌, ◌++◌, OnOk, OnErr};
 ghost use Rattle.std.specs.Io.{StartsWith};
-ghost use Rattle.samoa_serial.specs.Lines.{entry_text, accepted_text, finished_text, refusal_line, waiting_text, sent_text, delivered_text, asked_text, handler_text, dest_text};
+ghost use Rattle.samoa_serial.specs.Lines.{entry_text, accepted_text, finished_text, refusal_line, waiting_text, sent_text, delivered_text, asked_text, dest_text};
+ghost use Rattle.samoa_model.specs.Handlers.{handler_text};
 
-use crate::names::{change_name, event_name, handler_name, micro_name, refusal_name, refused_name};
+use crate::names::{change_name, event_name, micro_name, refusal_name, refused_name};
 use crate::push::{push_byte, push_head, push_number, push_text, push_words, whole_or_cut};
 use samoa_model::{
     ChangeId, Dest, Entry, EventId, HandlerId, MicroId, NoMemory, Refusal, Script, Words,
@@ -216,7 +217,7 @@ fn push_both_names(script: &Script, handler: HandlerId, out: &mut Vec<u8>) -> Re
 {
     push_text(micro_name(script, handler.micro), out)?;
     push_byte(b'.', out)?;
-    push_text(handler_name(script, handler), out)
+    push_text(script.handler_name(handler).as_bytes(), out)
 }
 
 /// Appends the number of a node, or `*` for all nodes.

@@ -1,28 +1,15 @@
 //! The names that a line prints. A number that names nothing in the script has the empty name.
-ghost use Rattle.std.specs.Prelude.{◌≡◌, get_or};
-ghost use Rattle.samoa_model.specs.Scripts.{micro_at, event_at, change_at, no_code};
+ghost use Rattle.std.specs.Prelude.{◌≡◌};
+ghost use Rattle.samoa_model.specs.Scripts.{micro_at, event_at, change_at};
 ghost use Rattle.samoa_serial.specs.Lines.{refusal_text, refused_text, cause_letter as letter_of, cause_name as name_of};
 
-use samoa_model::{Cause, ChangeId, EventId, HandlerId, MicroId, Refusal, Script};
+use samoa_model::{Cause, ChangeId, EventId, MicroId, Refusal, Script};
 
 pub fn micro_name(script: &Script, micro: MicroId) -> &[u8]
     ensures { result.now ≡ (micro_at script.now micro.0).name }
 {
     match script.micros.as_slice().get(micro.0 as usize) {
         Some(micro) => micro.name.as_str().as_bytes(),
-        None => b"",
-    }
-}
-
-/// The name of a handler, without that of its microprotocol.
-pub fn handler_name(script: &Script, handler: HandlerId) -> &[u8]
-    ensures { result.now ≡ (get_or (micro_at script.now handler.micro.0).handlers handler.index no_code).name }
-{
-    let Some(micro) = script.micros.as_slice().get(handler.micro.0 as usize) else {
-        return b"";
-    };
-    match micro.handlers.as_slice().get(handler.index as usize) {
-        Some(handler) => handler.name.as_str().as_bytes(),
         None => b"",
     }
 }

@@ -15,7 +15,7 @@ fn none<T>(alloc: Global) -> Listed<T> {
     Listed::from_vec(Vec::new(alloc))
 }
 
-/// A microprotocol `ab` with a handler `f`, an event `go`, and a change `to_b`.
+/// A microprotocol `ab` with a handler `f`, a link `l`, an event `go`, and a change `to_b`.
 fn small_script(alloc: Global) -> Result<Script, NoMemory> {
     let handler = CodeDef {
         name: Name::new("f"),
@@ -28,6 +28,14 @@ fn small_script(alloc: Global) -> Result<Script, NoMemory> {
         ports: none(alloc),
         changes: none(alloc),
         handlers: one(alloc, handler)?,
+    };
+    let link = MicroDef {
+        name: Name::new("l"),
+        kind: Kind::Link,
+        nums: Words::new(),
+        ports: none(alloc),
+        changes: none(alloc),
+        handlers: none(alloc),
     };
     let event = EventDef {
         name: Name::new("go"),
@@ -42,7 +50,7 @@ fn small_script(alloc: Global) -> Result<Script, NoMemory> {
     Ok(Script {
         nodes: 2,
         ticks: 10,
-        micros: one(alloc, micro)?,
+        micros: Listed::from_vec(Vec::from_array(alloc, [micro, link])?),
         decls: none(alloc),
         events: one(alloc, event)?,
         changes: one(alloc, change)?,
@@ -52,7 +60,7 @@ fn small_script(alloc: Global) -> Result<Script, NoMemory> {
     })
 }
 
-fn entries() -> [Entry; 8] {
+fn entries() -> [Entry; 9] {
     let arg = Words::cut(&[1, 18446744073709551615]);
     let event = EventId(0);
     [
@@ -64,6 +72,15 @@ fn entries() -> [Entry; 8] {
                 index: 0,
             },
             arg,
+        },
+        Entry::Accepted {
+            call: 2,
+            caller: 1,
+            handler: HandlerId {
+                micro: MicroId(1),
+                index: 0,
+            },
+            arg: Words::new(),
         },
         Entry::Finished {
             call: 10,
@@ -127,6 +144,7 @@ fn prints_each_line(rt: HostRuntime) -> Result<(), Fail> {
     total_line(100000, 18446744073709551615, 0, &mut out)?;
     let want: &[u8] = b"B 4294967295 12 1 to_b 3 4\n\
 C 7 1 0 ab.f 1 18446744073709551615\n\
+C 7 2 1 l.send\n\
 Y 7 10 1 18446744073709551615\n\
 W 7 3 go\n\
 M 7 4 1 go 1 18446744073709551615\n\

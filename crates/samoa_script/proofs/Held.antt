@@ -1,9 +1,9 @@
 -- What a script that bytes hold keeps to.
 use Rattle.std.proofs.Common.{◌≡◌, ℕ, List, None, sym, subst}
-use Rattle.std.specs.List.{All}
 use Rattle.serde_json.specs.Data.{Data}
+use Rattle.std.specs.Prelude.{◌↔◌}
 use Rattle.samoa_model.specs.declared.script.Script.{Script}
-use Rattle.samoa_model.specs.Range.{HasDecls, IsInRange}
+use Rattle.samoa_model.specs.Range.{IsInRange}
 use Rattle.samoa_grammar.specs.Walks.{◌then◌}
 use Rattle.samoa_grammar.specs.Forms.{form_of_all, draft_of}
 use Rattle.samoa_grammar.specs.Passes.{twice_fault, unknown_fault, totals_fault}
@@ -11,11 +11,12 @@ use Rattle.samoa_grammar.specs.Meaning.{script_of}
 use Rattle.samoa_grammar.specs.Held.{walk_fault, script_meant, Holds}
 use Rattle.samoa_form.specs.Limits.{HasLimits}
 use Rattle.samoa_form.proofs.Limits.{draft_limits}
-use Rattle.samoa_naming.specs.Sound.{HasShortCodes, HasPositions, HasPorts, HasFewOfEach, IsLossOf, IsCrashOf}
+use Rattle.samoa_model.specs.Valid.{IsValid}
 use Rattle.samoa_naming.proofs.Along.{then_none}
-use Rattle.samoa_naming.proofs.Range.{script_in_range}
-use Rattle.samoa_naming.proofs.Sound.{short_codes, positions_there, enough_ports, few_of_each, losses_of, crashes_of}
-use Rattle.samoa_naming.proofs.Decls.{decls_in}
+use Rattle.samoa_naming.proofs.Valid.{script_valid}
+use Rattle.samoa_print.specs.Canonical.{tree_of}
+use Rattle.samoa_print.proofs.Round.{valid_passes, valid_means}
+use Rattle.samoa_script.specs.Meant.{IsMeant}
 
 -- ---- the passes of a tree without a fault
 
@@ -38,38 +39,20 @@ by_tree : (P : Script → Type 0) → ((d : Data) → Passes d → P (script_of 
 unfolding script_meant
 by_tree P each d script passes means = subst P (sym means) (each d (passes_of d passes))
 
-by_draft : (P : Script → Type 0) → ((d : Data) → Passes d → P (script_of (draft_of d))) → (bytes : List ℕ) (script : Script) → Holds bytes script → P script
-by_draft P each bytes script held = by_tree P each held.tree script held.passes held.means
-
 limits_of : (d : Data) → Passes d → HasLimits (draft_of d)
 limits_of d p = draft_limits d p.form
 
-pub held_range : (bytes : List ℕ) (script : Script) → Holds bytes script → IsInRange script
-held_range = by_draft IsInRange (λ d p. script_in_range (draft_of d) (limits_of d p) p.once p.known p.totals)
-
-pub held_short : (bytes : List ℕ) (script : Script) → Holds bytes script → HasShortCodes script
-held_short = by_draft HasShortCodes (λ d p. short_codes (draft_of d) (limits_of d p))
+pub tree_valid : (d : Data) (script : Script) → walk_fault d ≡ None → script ≡ script_meant d → IsValid script
+tree_valid = by_tree IsValid (λ d p. script_valid (draft_of d) (limits_of d p) p.once p.known p.totals)
 
 pub tree_range : (d : Data) (script : Script) → walk_fault d ≡ None → script ≡ script_meant d → IsInRange script
-tree_range = by_tree IsInRange (λ d p. script_in_range (draft_of d) (limits_of d p) p.once p.known p.totals)
+tree_range d script passes means = (tree_valid d script passes means).in_range
 
-pub tree_short : (d : Data) (script : Script) → walk_fault d ≡ None → script ≡ script_meant d → HasShortCodes script
-tree_short = by_tree HasShortCodes (λ d p. short_codes (draft_of d) (limits_of d p))
+pub held_valid : (bytes : List ℕ) (script : Script) → Holds bytes script → IsValid script
+held_valid bytes script held = tree_valid held.tree script held.passes held.means
 
-pub held_positions : (bytes : List ℕ) (script : Script) → Holds bytes script → HasPositions script
-held_positions = by_draft HasPositions (λ d p. positions_there (draft_of d) p.totals)
-
-pub held_ports : (bytes : List ℕ) (script : Script) → Holds bytes script → HasPorts script
-held_ports = by_draft HasPorts (λ d p. enough_ports (draft_of d) p.totals)
-
-pub held_kinds : (bytes : List ℕ) (script : Script) → Holds bytes script → HasFewOfEach script
-held_kinds = by_draft HasFewOfEach (λ d p. few_of_each (draft_of d) p.totals)
-
-pub held_decls : (bytes : List ℕ) (script : Script) → Holds bytes script → HasDecls script
-held_decls = by_draft HasDecls (λ d p. decls_in (draft_of d) (limits_of d p) p.once p.known p.totals)
-
-pub held_losses : (bytes : List ℕ) (script : Script) → Holds bytes script → All (IsLossOf script) script.losses
-held_losses = by_draft (λ s. All (IsLossOf s) s.losses) (λ d p. losses_of (draft_of d) p.totals)
-
-pub held_crashes : (bytes : List ℕ) (script : Script) → Holds bytes script → All (IsCrashOf script) script.crashes
-held_crashes = by_draft (λ s. All (IsCrashOf s) s.crashes) (λ d p. crashes_of (draft_of d) p.totals)
+pub valid_meant : (script : Script) → IsValid script ↔ IsMeant script
+valid_meant script = (
+  λ valid. record { tree = tree_of script; passes = valid_passes script valid; means = sym (valid_means script valid) },
+  λ meant. tree_valid meant.tree script meant.passes meant.means,
+)

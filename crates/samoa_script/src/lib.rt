@@ -8,7 +8,7 @@ mod reading;
 mod tests;
 
 pub use fault::ScriptFault;
-pub use reading::{one_answer, read_script, some_answer, whole_limits};
+pub use reading::{one_answer, read_script, some_answer, valid_scripts_are_those_that_texts_hold};
 pub use samoa_model::Script;
 pub use samoa_names::EventNames;
 pub use samoa_print::{need, print_script, printed_again};

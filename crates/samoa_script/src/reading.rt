@@ -1,13 +1,13 @@
 //! Bytes to a script.
-ghost use Rattle.std.specs.Prelude.{◌≡◌, ◌⊎◌, ℕ, List, IfOk, IfErr};
-ghost use Rattle.std.specs.List.{All};
+ghost use Rattle.std.specs.Prelude.{◌≡◌, ◌⊎◌, ◌↔◌, ℕ, List, IfOk, IfErr};
 ghost use Rattle.serde_json.specs.View.{view};
 ghost use Rattle.samoa_model.specs.declared.script.Script.{Script as ScriptValue};
-ghost use Rattle.samoa_model.specs.Range.{HasDecls, IsInRange};
+ghost use Rattle.samoa_model.specs.Range.{IsInRange};
 ghost use Rattle.samoa_grammar.specs.Held.{walk_fault, script_meant, Holds};
 ghost use Rattle.samoa_form.specs.Reads.{Reads};
-ghost use Rattle.samoa_naming.specs.Sound.{HasShortCodes, HasPositions, HasPorts, HasFewOfEach, IsLossOf, IsCrashOf};
+ghost use Rattle.samoa_model.specs.Valid.{IsValid};
 ghost use Rattle.samoa_script.specs.declared.fault.ScriptFault.{ScriptFault as FaultValue};
+ghost use Rattle.samoa_script.specs.Meant.{IsMeant};
 ghost use Rattle.samoa_script.specs.Fails.{Fails, HasScript, HasFault};
 
 use crate::fault::{ScriptFault, fault_of};
@@ -36,7 +36,6 @@ pub fn read_script(alloc: Global, bytes: &[u8]) -> Result<Script, ScriptFault>
     ensures ok { IfOk result (Holds bytes.now) }
     ensures fault { IfErr result (Fails bytes.now) }
     ensures in_range { IfOk result IsInRange }
-    ensures short { IfOk result HasShortCodes }
 {
     if bytes.len() > MOST_BYTES {
         return Err(ScriptFault::TooLong);
@@ -65,15 +64,10 @@ pub fn some_answer()
     ensures { (bytes : List ℕ) → HasScript bytes ⊎ HasFault bytes }
 {}
 
-/// What a script keeps to that bytes hold: it is in range, its handlers are short, each instruction's position is there,
-/// each kind has its ports and is few, and what its declarations, losses and crashes name is there.
-pub fn whole_limits()
-    ensures in_range { (bytes : List ℕ) (script : ScriptValue) → Holds bytes script → IsInRange script }
-    ensures short { (bytes : List ℕ) (script : ScriptValue) → Holds bytes script → HasShortCodes script }
-    ensures positions { (bytes : List ℕ) (script : ScriptValue) → Holds bytes script → HasPositions script }
-    ensures ports { (bytes : List ℕ) (script : ScriptValue) → Holds bytes script → HasPorts script }
-    ensures kinds { (bytes : List ℕ) (script : ScriptValue) → Holds bytes script → HasFewOfEach script }
-    ensures decls { (bytes : List ℕ) (script : ScriptValue) → Holds bytes script → HasDecls script }
-    ensures losses { (bytes : List ℕ) (script : ScriptValue) → Holds bytes script → All (IsLossOf script) script.losses }
-    ensures crashes { (bytes : List ℕ) (script : ScriptValue) → Holds bytes script → All (IsCrashOf script) script.crashes }
+/// The valid scripts are those that texts hold. A script is valid exactly where some tree means it that passes the walk,
+/// and then its canonical tree is one. So each script that bytes hold is valid: it is in range, its names have their form
+/// and stand once, and what a route, a list of handlers or a table has stands there once.
+pub fn valid_scripts_are_those_that_texts_hold()
+    ensures meant { (script : ScriptValue) → IsValid script ↔ IsMeant script }
+    ensures held { (bytes : List ℕ) (script : ScriptValue) → Holds bytes script → IsValid script }
 {}

@@ -8,7 +8,7 @@ use Rattle.samoa_model.specs.declared.handler.Outcome.{Outcome}
 use Rattle.samoa_model.specs.declared.record.Entry.{Entry}
 use Rattle.samoa_model.specs.declared.record.Ending.{Ending}
 use Rattle.samoa_model.specs.Allowed.{Attempt}
-use Rattle.samoa_serial.specs.State.{State, Registers, Blank}
+use Rattle.samoa_serial.specs.State.{State, Registers}
 use Rattle.samoa_serial.specs.World.{Rules, States}
 use Rattle.samoa_serial.specs.Whole.{event_whole}
 
@@ -24,7 +24,7 @@ hd n = record { micro = record { 0 = n }; index = 0 }
 -- a state that remembers one word more
 recalls : List ℕ → State → State
 recalls arg (Registers words) = Registers (arg ++ words)
-recalls arg Blank = Registers arg
+recalls arg _ = Registers arg
 
 frame_steps : List ℕ → State → State × Outcome
 frame_steps (zero ∷ []) s = (s, Outcome.Later (ev 2) (w 9) (w 1))
@@ -46,7 +46,7 @@ unfolding steps answers frame_steps recalls w ev hd
 example = record { step = λ p s m. steps p.0 s m; attempt = λ es caller event. answers event.0 }
 
 start_states : States
-start_states = λ p. Blank
+start_states = λ p. Registers []
 
 value_is : (event_whole example 4 start_states (ev 0) (w 3)).value ≡ Ending.Replied (Reply.Words (w 7))
 unfolding example start_states steps answers frame_steps recalls w ev hd

@@ -1,17 +1,31 @@
+pub mod BatchLaws
 pub mod Bound
+pub mod CodeLaws
+mod ConsReference
 pub mod Declared
+pub mod DrainLaws
 pub mod End
 mod Example
+pub mod EntryLaws
 pub mod Falls
 pub mod Fixed
 pub mod HistoryLaws
+pub mod KeptLaws
+mod KindsReference
 pub mod Lengths
+pub mod ListLaws
 pub mod Point
+pub mod RangeLaws
 pub mod Reach
+pub mod RebindingLaws
 pub mod Refine
 mod ReferenceMoments
 mod ReferenceReport
 mod ReferenceRuns
+mod ReferenceTicks
 pub mod ReportLaws
+pub mod RowLaws
 pub mod ScriptLaws
 pub mod SerialLaws
+pub mod StillLaws
+pub mod TicksLaws

@@ -1,36 +1,30 @@
 -- The step of each kind of microprotocol.
-use Rattle.std.specs.Prelude.{ℕ, zero, suc, ◌+◌, ◌-◌, ◌%◌, ◌^◌, Bool, true, false, nat_lt, if◌then◌else◌, List, [], ◌∷◌, take, drop, Option, Some, None, slice_index, slice_index_or, slice_set, slice_get}
+use Rattle.std.specs.Prelude.{ℕ, zero, suc, ◌+◌, ◌-◌, ◌%◌, ◌^◌, Bool, true, false, nat_lt, if◌then◌else◌, List, [], ◌∷◌, take, drop, Option, Some, None, slice_index, slice_set, slice_get, length}
 use Rattle.samoa_model.specs.declared.handler.Moment.{Moment}
 use Rattle.samoa_model.specs.declared.handler.Moment.TheVariants.{Begin, Resume}
-use Rattle.samoa_model.specs.declared.handler.Dest.{Dest}
-use Rattle.samoa_model.specs.declared.handler.Dest.TheVariants.{One, All}
 use Rattle.samoa_model.specs.declared.handler.Refusal.{Refusal}
 use Rattle.samoa_model.specs.declared.handler.Refusal.TheVariants.{OverBudget, Unbound, Undeclared, OverBound, OffRoute}
 use Rattle.samoa_model.specs.declared.handler.Reply.{Reply}
 use Rattle.samoa_model.specs.declared.handler.Reply.TheVariants.{Words, Refused}
-use Rattle.samoa_model.specs.declared.ids.EventId.{EventId}
-use Rattle.samoa_model.specs.declared.ids.ChangeId.{ChangeId}
 use Rattle.samoa_model.specs.declared.handler.Outcome.{Outcome}
 use Rattle.samoa_model.specs.declared.handler.Outcome.TheVariants as gives
 use Rattle.samoa_model.specs.declared.setup.Kind.{Kind}
-use Rattle.samoa_model.specs.declared.setup.Kind.TheVariants.{Prog}
+use Rattle.samoa_model.specs.declared.setup.Kind.TheVariants.{Prog, Link, Fd, Rbcast, Cons, Abcast, Seqcast, Repl, Views}
 use Rattle.samoa_model.specs.declared.setup.Place.{Place}
 use Rattle.samoa_model.specs.declared.setup.Place.TheVariants.{Reg, Local}
 use Rattle.samoa_model.specs.declared.setup.Instr.{Instr}
 use Rattle.samoa_model.specs.declared.setup.Instr.TheVariants as instr
 use Rattle.samoa_model.specs.declared.setup.Setup.{Setup}
-use Rattle.samoa_serial.specs.State.{State, Registers, Blank}
-
--- the event and the change that stand at a position; number 0 past the end
-abbrev pub port_at : Setup → ℕ → EventId
-port_at setup port = slice_index_or setup.ports port (record { 0 = 0 })
-
-abbrev pub change_at_place : Setup → ℕ → ChangeId
-change_at_place setup change = slice_index_or setup.changes change (record { 0 = 0 })
-
--- a message to this node, or to all where there is no such node
-abbrev pub dest_of : Setup → ℕ → Dest
-dest_of setup node = if nat_lt node setup.nodes then One (record { 0 = node }) else All
+use Rattle.samoa_serial.specs.State.{State, Registers, OfLink, OfFd, OfRbcast, OfAbcast, OfSeqcast, OfRepl, OfViews, OfCons}
+pub use Rattle.samoa_serial.specs.Rows.{port_at, change_at_place, dest_of}
+use Rattle.samoa_serial.specs.LinkTable.{link_step}
+use Rattle.samoa_serial.specs.ViewsTable.{views_opening, views_step}
+use Rattle.samoa_serial.specs.FdTable.{fd_opening, fd_mask, fd_step}
+use Rattle.samoa_serial.specs.RbcastTable.{rbcast_step}
+use Rattle.samoa_serial.specs.SeqcastTable.{seqcast_step}
+use Rattle.samoa_serial.specs.AbcastTable.{abcast_step}
+use Rattle.samoa_serial.specs.ReplTable.{repl_step}
+use Rattle.samoa_serial.specs.ConsTable.{cons_step, greatest_round}
 
 -- the first four numbers of a list, 0 where there are fewer
 abbrev pub first_four : List ℕ → List ℕ
@@ -125,21 +119,67 @@ script_step setup registers (Resume handler frame reply) =
     let at = slice_index frame 0 in
     run_from setup code at (record { registers = registers; locals = resumed (waited code at) (first_four (drop 1 frame)) reply })
 
--- a step of a microprotocol of this kind, set up so, from this state: its new state and its outcome.
--- A kind whose table isn't here yet is done with no word
+-- the state of a kind, kept beside the outcome
+abbrev pub kept : {S : Type 0} → (S → State) → S × Outcome → State × Outcome
+kept of (s, outcome) = (of s, outcome)
+
+-- a microprotocol whose state is another kind's stays as it is, and is done with no word
+abbrev pub unmoved : State → State × Outcome
+unmoved state = (state, gives.Done [])
+
+-- a step of a microprotocol of this kind, set up so, from this state. Each kind has its own lines, so that none can be left out
 abbrev pub kind_step : Kind → Setup → State → Moment → State × Outcome
 kind_step Prog setup (Registers registers) moment = script_step setup registers moment
-kind_step _ setup state moment = (state, gives.Done [])
+kind_step Prog setup state moment = unmoved state
+kind_step Link setup (OfLink s) moment = kept OfLink (link_step setup s moment)
+kind_step Link setup state moment = unmoved state
+kind_step Fd setup (OfFd s) moment = kept OfFd (fd_step setup s moment)
+kind_step Fd setup state moment = unmoved state
+kind_step Rbcast setup (OfRbcast s) moment = kept OfRbcast (rbcast_step setup s moment)
+kind_step Rbcast setup state moment = unmoved state
+kind_step Cons setup (OfCons s) moment = kept OfCons (cons_step setup s moment)
+kind_step Cons setup state moment = unmoved state
+kind_step Abcast setup (OfAbcast s) moment = kept OfAbcast (abcast_step setup s moment)
+kind_step Abcast setup state moment = unmoved state
+kind_step Seqcast setup (OfSeqcast s) moment = kept OfSeqcast (seqcast_step setup s moment)
+kind_step Seqcast setup state moment = unmoved state
+kind_step Repl setup (OfRepl s) moment = kept OfRepl (repl_step setup s moment)
+kind_step Repl setup state moment = unmoved state
+kind_step Views setup (OfViews s) moment = kept OfViews (views_step setup s moment)
+kind_step Views setup state moment = unmoved state
 
 -- the state after being set up
 abbrev pub opening : Kind → Setup → State
 opening Prog setup = Registers (first_four setup.nums)
-opening _ setup = Blank
+opening Link setup = OfLink (record { sent = 0; got = 0 })
+opening Fd setup = OfFd (fd_opening setup)
+opening Rbcast setup = OfRbcast (record { seq = 0; seen = [] })
+opening Abcast setup = OfAbcast (record { next = 1; proposed = 0; pending = []; done = []; decisions = [] })
+opening Seqcast setup = OfSeqcast (record { numbered = 0; keys = []; got = []; next = 1 })
+opening Repl setup = OfRepl (record { epoch = 0; hold = 0; count = 0; mine = []; delivered = []; early = [] })
+opening Views setup = OfViews (views_opening setup)
+opening Cons setup = OfCons (record { instances = []; decisions = []; rounds = [] })
 
 -- the words that a microprotocol shows
 abbrev pub shown : Kind → State → List ℕ
 shown Prog (Registers registers) = registers
-shown _ state = []
+shown Prog state = []
+shown Link (OfLink s) = s.sent ∷ s.got ∷ []
+shown Link state = []
+shown Fd (OfFd s) = fd_mask s ∷ []
+shown Fd state = []
+shown Rbcast (OfRbcast s) = s.seq ∷ length s.seen ∷ []
+shown Rbcast state = []
+shown Abcast (OfAbcast s) = s.next ∷ length s.pending ∷ []
+shown Abcast state = []
+shown Seqcast (OfSeqcast s) = s.numbered ∷ s.next ∷ []
+shown Seqcast state = []
+shown Repl (OfRepl s) = s.epoch ∷ s.count ∷ length s.delivered ∷ s.hold ∷ []
+shown Repl state = []
+shown Views (OfViews s) = s.number ∷ s.mask ∷ []
+shown Views state = []
+shown Cons (OfCons s) = length s.decisions ∷ greatest_round s.instances ∷ []
+shown Cons state = []
 
 -- what contracts see of a microprotocol. Where it is still to be set up, its setup and its state say nothing
 pub record Seen : Type 0 where

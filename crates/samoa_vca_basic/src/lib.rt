@@ -3,7 +3,7 @@
 
 ghost use Rattle.std.specs.Prelude.{◌≡◌, ◌↔◌, IsTrue, false};
 ghost use Rattle.samoa_model.specs.Range.{IsSet};
-ghost use Rattle.samoa_declare.specs.Left.{NothingLeft};
+ghost use Rattle.samoa_model.specs.Paths.{NothingLeft};
 
 use samoa_declare::{Standing, nothing_left};
 use samoa_model::{Decl, MicroId};

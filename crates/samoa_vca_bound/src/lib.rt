@@ -4,7 +4,7 @@
 ghost use Rattle.std.specs.Prelude.{◌≡◌, ◌↔◌, ◌==◌, IsTrue};
 ghost use Rattle.std.specs.List.{list_any};
 ghost use Rattle.samoa_model.specs.Allowed.{declares};
-ghost use Rattle.samoa_declare.specs.Left.{NothingLeft};
+ghost use Rattle.samoa_model.specs.Paths.{NothingLeft};
 ghost use Rattle.samoa_vca_bound.specs.Bounds.{IsBound};
 
 use samoa_declare::{Standing, nothing_left};

@@ -40,7 +40,6 @@ fn releases_at_rest(rt: HostRuntime) -> Result<(), Fail> {
         (None, None, true),
         (call, None, false),
         (None, call, false),
-        (call, call, false),
     ] {
         assert_eq!(rt;
             may_release(&decl, &Calls { active, waiting }, MicroId(1)),

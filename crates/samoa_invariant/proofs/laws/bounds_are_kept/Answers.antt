@@ -1,5 +1,5 @@
-use Rattle.samoa_invariant.proofs.Bounds.{within}
-use Rattle.samoa_invariant.proofs.Ends.{reached_keeps}
+use Rattle.samoa_invariant.proofs.preservation.Bounds.{within}
+use Rattle.samoa_invariant.proofs.refinement.Ends.{reached_keeps}
 use Rattle.samoa_invariant.proofs.laws.bounds_are_kept.Goals as goal
 
 pub returns : goal.returns

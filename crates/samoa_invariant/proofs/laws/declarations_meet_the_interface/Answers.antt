@@ -1,4 +1,4 @@
-use Rattle.samoa_invariant.proofs.Forms.{meets}
+use Rattle.samoa_invariant.proofs.preservation.Forms.{meets}
 use Rattle.samoa_invariant.proofs.laws.declarations_meet_the_interface.Goals as goal
 
 pub returns : goal.returns

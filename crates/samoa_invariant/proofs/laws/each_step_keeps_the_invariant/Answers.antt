@@ -1,5 +1,5 @@
-use Rattle.samoa_invariant.proofs.Forms.{enabled_keeps}
-use Rattle.samoa_invariant.proofs.Ends.{reached_keeps}
+use Rattle.samoa_invariant.proofs.preservation.Forms.{enabled_keeps}
+use Rattle.samoa_invariant.proofs.refinement.Ends.{reached_keeps}
 use Rattle.samoa_invariant.proofs.laws.each_step_keeps_the_invariant.Goals as goal
 
 pub returns : goal.returns

@@ -1,4 +1,4 @@
-use Rattle.samoa_invariant.proofs.Ends.{reached_keeps, ended_answers}
+use Rattle.samoa_invariant.proofs.refinement.Ends.{reached_keeps, ended_answers}
 use Rattle.samoa_invariant.proofs.laws.ended_computations_have_serial_answers.Goals as goal
 
 pub returns : goal.returns

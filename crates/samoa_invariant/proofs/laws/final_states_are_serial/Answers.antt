@@ -1,4 +1,4 @@
-use Rattle.samoa_invariant.proofs.Ends.{reached_keeps, final_states, all_home}
+use Rattle.samoa_invariant.proofs.refinement.Ends.{reached_keeps, final_states, all_home}
 use Rattle.samoa_invariant.proofs.laws.final_states_are_serial.Goals as goal
 
 pub returns : goal.returns

@@ -1,5 +1,5 @@
-use Rattle.samoa_invariant.proofs.Ends.{reached_keeps}
-use Rattle.samoa_invariant.proofs.Progress.{ended_or_goes_on}
+use Rattle.samoa_invariant.proofs.refinement.Ends.{reached_keeps}
+use Rattle.samoa_invariant.proofs.progress.Progress.{ended_or_goes_on}
 use Rattle.samoa_invariant.proofs.laws.something_goes_on.Goals as goal
 
 pub returns : goal.returns

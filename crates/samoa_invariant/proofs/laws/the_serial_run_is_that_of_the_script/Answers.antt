@@ -1,5 +1,5 @@
-use Rattle.samoa_invariant.proofs.Ends.{reached_keeps}
-use Rattle.samoa_invariant.proofs.Serials.{script_answers, script_states}
+use Rattle.samoa_invariant.proofs.refinement.Ends.{reached_keeps}
+use Rattle.samoa_invariant.proofs.refinement.Serials.{script_answers, script_states}
 use Rattle.samoa_invariant.proofs.laws.the_serial_run_is_that_of_the_script.Goals as goal
 
 pub returns : goal.returns

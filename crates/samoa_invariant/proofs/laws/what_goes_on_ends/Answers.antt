@@ -1,5 +1,5 @@
-use Rattle.samoa_invariant.proofs.Ends.{reached_keeps}
-use Rattle.samoa_invariant.proofs.Lefts.{all_can_end, step_fewer}
+use Rattle.samoa_invariant.proofs.refinement.Ends.{reached_keeps}
+use Rattle.samoa_invariant.proofs.measure.Lefts.{all_can_end, step_fewer}
 use Rattle.samoa_invariant.proofs.laws.what_goes_on_ends.Goals as goal
 
 pub returns : goal.returns

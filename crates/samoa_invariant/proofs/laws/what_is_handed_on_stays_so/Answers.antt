@@ -1,5 +1,5 @@
-use Rattle.samoa_invariant.proofs.Ends.{reached_keeps}
-use Rattle.samoa_invariant.proofs.Forms.{past_never, released_never}
+use Rattle.samoa_invariant.proofs.refinement.Ends.{reached_keeps}
+use Rattle.samoa_invariant.proofs.preservation.Forms.{past_never, released_never}
 use Rattle.samoa_invariant.proofs.laws.what_is_handed_on_stays_so.Goals as goal
 
 pub returns : goal.returns

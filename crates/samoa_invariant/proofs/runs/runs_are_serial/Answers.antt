@@ -1,6 +1,6 @@
 use Rattle.samoa_invariant.specs.Runs.{play, state}
-use Rattle.samoa_invariant.proofs.Ends.{all_home}
-use Rattle.samoa_invariant.proofs.Traces.{final, invariant, points, served}
+use Rattle.samoa_invariant.proofs.refinement.Ends.{all_home}
+use Rattle.samoa_invariant.proofs.representation.Traces.{final, invariant, points, served}
 use Rattle.samoa_invariant.proofs.runs.runs_are_serial.Goals as goal
 
 pub returns : goal.returns

@@ -1,4 +1,4 @@
-use Rattle.samoa_invariant.proofs.Traces.{held_not_cleared, is_run-with_clear, is_run-with_ext, is_run-with_step, opening_is_run, state-clear, state-ext, state-step}
+use Rattle.samoa_invariant.proofs.representation.Traces.{held_not_cleared, is_run-with_clear, is_run-with_ext, is_run-with_step, opening_is_run, state-clear, state-ext, state-step}
 use Rattle.samoa_invariant.proofs.runs.runs_grow.Goals as goal
 
 pub returns : goal.returns

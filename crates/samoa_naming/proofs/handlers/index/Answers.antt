@@ -3,7 +3,7 @@ use Rattle.std.specs.Prelude.{option_map}
 use Rattle.std.specs.List.{position}
 use Rattle.std.proofs.lemmas.List.{length-map}
 use Rattle.samoa_model.specs.declared.script.CodeDef.{CodeDef}
-use Rattle.samoa_grammar.specs.Meaning.{handlers_of_kind}
+use Rattle.samoa_model.specs.Handlers.{handlers_of_kind}
 use Rattle.samoa_naming.specs.Groups.{handler_place}
 use Rattle.samoa_naming.proofs.Positions.{position_right}
 use Rattle.samoa_naming.proofs.handlers.index.Goals as goal

@@ -1,6 +1,7 @@
 use Rattle.std.proofs.Common.{◌≡◌, ◌++◌, take, map}
 use Rattle.std.specs.List.{flat_map}
-use Rattle.samoa_grammar.specs.Meaning.{once, handler_of}
+use Rattle.samoa_model.specs.Routes.{once}
+use Rattle.samoa_grammar.specs.Meaning.{handler_of}
 use Rattle.samoa_naming.specs.Routes.{ends_of}
 use Rattle.samoa_naming.proofs.routes.vertices.Given as goal
 

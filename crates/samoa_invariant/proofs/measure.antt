@@ -1,0 +1,3 @@
+-- How many steps may still come.
+pub mod Lefts
+pub mod Room

@@ -1,0 +1,3 @@
+-- Which releases and ends are made, and in which order.
+pub mod Releasing
+pub mod Making

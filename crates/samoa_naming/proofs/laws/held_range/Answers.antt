@@ -1,9 +1,0 @@
-use Rattle.samoa_naming.proofs.Range.{script_in_range}
-use Rattle.samoa_naming.proofs.Sound.{short_codes}
-use Rattle.samoa_naming.proofs.laws.held_range.Goals as goal
-
-pub returns-clause-in_range : goal.returns-clause-in_range
-returns-clause-in_range c = script_in_range
-
-pub returns-clause-short : goal.returns-clause-short
-returns-clause-short c = short_codes
