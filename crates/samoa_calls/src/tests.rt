@@ -7,14 +7,9 @@ use std::test::Fail;
 fn begins_with_nothing(rt: HostRuntime) -> Result<(), Fail> {
     let comp = Comp::new(rt.alloc(), 2, 3)?;
     assert_eq!(rt; comp.decl(), 2);
+    assert!(rt; comp.next().is_none());
     assert!(rt; comp.ending().is_none());
     assert!(rt; comp.entry(0).is_none());
-    Ok(())
-}
-
-#[test]
-fn nothing_stands_before_the_root_call(rt: HostRuntime) -> Result<(), Fail> {
-    let comp = Comp::new(rt.alloc(), 0, 1)?;
     assert!(rt; comp.active(0).is_none());
     assert!(rt; comp.waiting(0).is_none());
     assert!(rt; nothing_left(&comp));

@@ -1,7 +1,7 @@
 -- Each enter, leave, release and end lowers what is left, so that a run of them ends.
 use Rattle.std.proofs.Common.{arith, ◌≡◌, ◌≢◌, ℕ, zero, suc, ◌+◌, ◌-◌, ◌*◌, ◌≤◌, ◌<◌, ◌⊎◌, inl, inr, refl, sym, ap, ◌∙◌, subst, Bool, true, false, List, [], ◌∷◌, Option, Some, None, ◌==◌, if◌then◌else◌}
 use Rattle.std.specs.Prelude.{nat_lt}
-use Rattle.std.proofs.lemmas.Bool.{lt-ltb, ltb-true}
+use Rattle.std.proofs.lemmas.Bool.{cases_eq, lt-ltb, ltb-true}
 use Rattle.samoa_serial.specs.declared.call.Call.{Call}
 use Rattle.samoa_model.specs.declared.handler.Moment.{Moment}
 use Rattle.samoa_serial.specs.Calls.{Computation}
@@ -10,7 +10,6 @@ use Rattle.samoa_serial.specs.Alone.{next_step}
 use Rattle.samoa_invariant.specs.Play.{Play, point, turns}
 use Rattle.samoa_invariant.specs.State.{AllEnded, CanEnd, CanEnter, CanLeave, CanRelease, Core, Further, GoesOnTo, IsEnabled, IsForward, IsNextAt, Step, There, enter, finish, home_of, leave_at, leave_next, left, left_of, made_by, named, not_out_by, put, raise, release, short_at, shorts, sum_to, to_end}
 use Rattle.samoa_invariant.specs.Inv.{Invariant, IsOutRightly}
-use Rattle.std.proofs.lemmas.Bool.{cases_eq}
 use Rattle.samoa_invariant.proofs.preservation.Versions.{if_here, if_else}
 use Rattle.samoa_invariant.proofs.refinement.Points.{next_within}
 use Rattle.samoa_invariant.proofs.preservation.Slots.{put-else, put-here, put_at-else, put_at-here, slot_or_not, turn_declares}

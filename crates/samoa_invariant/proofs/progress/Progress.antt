@@ -1,6 +1,6 @@
 -- Something can always go on; and who can enter a box in a settled core.
 use Rattle.std.proofs.Common.{arith, ◌≡◌, ◌≢◌, ℕ, zero, suc, ◌≤◌, ◌<◌, ◌⊎◌, inl, inr, refl, sym, ap, ◌∙◌, subst, List, [], ◌∷◌, map, Bool, true, false, ◌||◌, Some, None, ◌==◌, if◌then◌else◌}
-use Rattle.std.proofs.lemmas.Bool.{eqb-true, or_cases}
+use Rattle.std.proofs.lemmas.Bool.{cases_eq, eqb-true, or_cases}
 use Rattle.std.proofs.lemmas.List.Folds.{list_any-append}
 use Rattle.std.specs.List.{list_any}
 use Rattle.samoa_serial.specs.declared.call.Active.{Active}
@@ -15,7 +15,6 @@ use Rattle.samoa_serial.specs.Alone.{next_of, next_step}
 use Rattle.samoa_invariant.specs.Play.{Play, version, attempts, table_of, point, Never, IsIdle}
 use Rattle.samoa_invariant.specs.State.{Core, Step, Quiet, HasTurn, IsNextAt, CanEnter, CanRelease, CanEnd, IsEnabled, IsForward, AllEnded, IsSettled, NothingOut, NoneEnters, IsLeastOpen, named}
 use Rattle.samoa_invariant.specs.Inv.{Meets, Invariant, IsDone, IsOutRightly}
-use Rattle.std.proofs.lemmas.Bool.{cases_eq}
 use Rattle.samoa_invariant.proofs.preservation.Versions.{in_order, if_else, all_before_past}
 use Rattle.samoa_invariant.proofs.refinement.Points.{some_or_none}
 use Rattle.samoa_invariant.proofs.refinement.Ends.{idle_is_whole}

@@ -3,18 +3,18 @@
 use Rattle.std.proofs.Common.{arith, ◌≡◌, ◌≢◌, ℕ, suc, ◌-◌, ◌≤◌, ◌<◌, ◌⊎◌, inl, inr, refl, sym, ap, subst, ◌∙◌, List, [], ◌∷◌, ◌++◌, true, get_or}
 use Rattle.std.specs.List.{All}
 use Rattle.std.proofs.lemmas.List.Elements.{All-append, All-get_or, All-head, All-nil, All-push, All-tail, All-weaker}
-use Rattle.std.proofs.lemmas.Bool.{cases_lt}
+use Rattle.std.proofs.lemmas.Bool.{cases_eq, cases_lt}
 use Rattle.std.proofs.lemmas.List.Quantifiers.{all_pairs_push}
 use Rattle.samoa_model.specs.declared.record.Step.{Step}
+use Rattle.samoa_model.specs.Allowed.{weight}
 use Rattle.samoa_invariant.specs.Play.{Play}
 use Rattle.samoa_invariant.specs.State.{CanRelease, Core, release}
 use Rattle.samoa_invariant.specs.Runs.{IsDue, IsRun, Trace, play, state, with_step}
 use Rattle.samoa_invariant.specs.Settling.{AreDue, EndsAll, EndsBefore, EndsFirst, IsEnd, IsEndBefore, IsRelease, IsReleaseBefore, IsReleaseOf, ReleasesAll, ReleasesBefore, ReleasesFirst, ReleasesOf, with_steps}
 use Rattle.samoa_invariant.proofs.representation.Due.{due-after, due-append, pairs-append, run-with_steps, with-both, with-more, with-none}
-use Rattle.samoa_invariant.proofs.settling.Releasing.{end_ends, ended_releases, release_opens}
-use Rattle.samoa_invariant.proofs.preservation.Slots.{put_at-here}
+use Rattle.samoa_invariant.proofs.settling.Releasing.{end_ends, ended_releases, release_opens, turns_same}
+use Rattle.samoa_invariant.proofs.preservation.Slots.{put_at-here, turn_declares}
 use Rattle.samoa_invariant.proofs.representation.Traces.{invariant, is_run-with_step}
-use Rattle.std.proofs.lemmas.Bool.{cases_eq}
 
 -- a release lets only a later computation's become due, at the same microprotocol of the same node
 pub release-opens : (t : Trace) (c p d q : ℕ) → IsRun t → IsDue t (Step.Release c p) → IsDue (with_step t (Step.Release c p)) (Step.Release d q)
@@ -38,6 +38,33 @@ release-spent t c p run due new =
     put_at-here core.local (P.node (c - 1)) p (P.node (c - 1)) p (core.private (c - 1) (P.node (c - 1)) p) refl refl in
     let below = there.enabled.turn.below in
     omega arith
+
+-- where no later computation of its node declares the microprotocol, none is due there afterwards
+pub release-last : (t : Trace) (c p : ℕ) → IsRun t → IsDue t (Step.Release c p)
+    → ((d : ℕ) → c < d → d ≤ (state t).count → (play t).node (d - 1) ≡ (play t).node (c - 1) → weight ((play t).decl (d - 1)) p ≡ 0)
+    → (d : ℕ) → (play t).node (d - 1) ≡ (play t).node (c - 1) → IsDue (with_step t (Step.Release c p)) (Step.Release d p) → ⊥
+release-last t c p run due last d same new = go (release-opens t c p d p run due new)
+  where
+    after : Trace
+    after = with_step t (Step.Release c p)
+
+    declared : 0 < weight ((play t).decl (d - 1)) p
+    declared = turn_declares (play t) (state after) (d - 1) p (invariant after (is_run-with_step t (Step.Release c p) run due)) new.enabled.turn
+
+    go : ((c < d) × ((play t).node (d - 1) ≡ (play t).node (c - 1)) × (p ≡ p)) ⊎ IsDue t (Step.Release d p) → ⊥
+    go (inl later) =
+        let there = due-after t (Step.Release c p) (Step.Release d p) run new in
+        let number : 0 < d = there.number in
+        let admitted = there.enabled.turn.admitted in
+        let none = last d later.0 (omega arith) same in
+        let some = declared in
+        omega arith
+    go (inr still) =
+        let is : d - 1 ≡ c - 1 = turns_same (play t) (state t) (d - 1) p (c - 1) p (invariant t run) same refl still.enabled.turn due.enabled.turn in
+        let first : 0 < d = still.number in
+        let number : 0 < c = due.number in
+        let e : d ≡ c = omega arith in
+        release-spent t c p run due (subst (λ (x : ℕ). IsDue (with_step t (Step.Release c p)) (Step.Release x p)) e new)
 
 -- an end lets no other become due, and isn't due a second time
 pub end-opens : (t : Trace) (c d : ℕ) → IsRun t → IsDue t (Step.End c) → IsDue (with_step t (Step.End c)) (Step.End d) → IsDue t (Step.End d) × (d ≢ c)
