@@ -1,12 +1,11 @@
 -- What a script admits, tick by tick, and what is written of it.
-use Rattle.std.proofs.Common.{◌≡◌, ℕ, Bool, zero, suc, ◌+◌, ◌-◌, ◌<◌, ◌≤◌, List, [], ◌++◌, length, map, sym, ap, ◌∙◌, subst, arith, append_assoc, append-nil, add-zero, length-append}
-use Rattle.std.proofs.lemmas.List.{length-map}
+use Rattle.std.proofs.Common.{◌≡◌, ℕ, Bool, zero, suc, ◌+◌, ◌-◌, ◌<◌, ◌≤◌, ◌==◌, true, false, cond, filter, List, [], ◌∷◌, ◌++◌, length, map, refl, sym, ap, ◌∙◌, subst, arith, append_assoc, append-nil, add-zero, length-append}
 use Rattle.std.proofs.lemmas.List.Sums.{length-filter, count_by-le-length}
 use Rattle.std.specs.List.{All}
 use Rattle.std.specs.declared.option.Option.{Option}
 use Rattle.std.specs.Io.KnownBytes.{Appends}
 use Rattle.std.proofs.KnownBytes.{Appends-trans}
-use Rattle.std.proofs.lemmas.List.Elements.{All-weaker}
+use Rattle.std.proofs.lemmas.List.Elements.{All-map, All-weaker}
 use Rattle.samoa_model.specs.declared.record.Ext.{Ext}
 use Rattle.samoa_model.specs.declared.script.DoDef.{DoDef}
 use Rattle.samoa_model.specs.declared.script.Script.{Script}
@@ -21,54 +20,69 @@ use Rattle.samoa_run.specs.Schedule.{of_tick}
 use Rattle.samoa_run.proofs.LaterText.{later_text-append}
 use Rattle.samoa_run.proofs.Parts.{part_after, part_more}
 
--- no item comes before the first tick
-pub items_late : (script : Script) → IsInRange script → All (λ (item : DoDef). 1 ≤ item.tick) script.does
-items_late script range = All-weaker (IsDoInRange script) (λ (item : DoDef). 1 ≤ item.tick) (λ item h. h.first) script.does range.does
+-- the script's own items, as admissions
+abbrev pub own_exts : Script → List Ext
+own_exts script = map ext_of script.does
+
+-- none comes before the first tick
+pub items_late : (script : Script) → IsInRange script → All (λ (ext : Ext). 1 ≤ ext.tick) (own_exts script)
+items_late script range =
+    All-map (λ (ext : Ext). 1 ≤ ext.tick) ext_of script.does
+    (All-weaker (IsDoInRange script) (λ (item : DoDef). 1 ≤ item.tick) (λ item h. h.first) script.does range.does)
+
+-- a test before or after they are made admissions
+filter_ext : (tick : ℕ) (items : List DoDef) → of_tick tick (map ext_of items) ≡ map ext_of (filter (λ (item : DoDef). item.tick == tick) items)
+filter_ext tick [] = refl
+filter_ext tick (x ∷ xs) = go (x.tick == tick) (filter_ext tick xs)
+  where
+    go : (b : Bool) {l : List Ext} {m : List DoDef} → l ≡ map ext_of m → cond b (ext_of x ∷ l) l ≡ map ext_of (cond b (x ∷ m) m)
+    go true e = ap (λ (l : List Ext). ext_of x ∷ l) e
+    go false e = e
 
 -- the first ticks admit no more than the script has items
 pub few_to : (script : Script) (n : ℕ) → length (history_to script n) ≤ length script.does
 few_to script n = omega (arith, length-history_to script n, length-filter (in_first n) script.does, count_by-le-length (in_first n) script.does)
 
 -- the items of a tick as admissions
-pub items_are_batch : (script : Script) (tick : ℕ) (items : List DoDef) → items ≡ of_tick tick script.does → map ext_of items ≡ batch script tick
+pub items_are_batch : (script : Script) (tick : ℕ) (items : List Ext) → items ≡ of_tick tick (own_exts script) → items ≡ batch script tick
 unfolding batch
-items_are_batch script tick items e = ap (λ (l : List DoDef). map ext_of l) e
+items_are_batch script tick items e = e ∙ filter_ext tick script.does
 
 -- these items come after the first ticks
-abbrev pub IsNext : Script → ℕ → List Ext → List DoDef → Type 0
-IsNext script before past items = (past ≡ history_to script before) × (items ≡ of_tick (before + 1) script.does)
+abbrev pub IsNext : Script → ℕ → List Ext → List Ext → Type 0
+IsNext script before past items = (past ≡ history_to script before) × (items ≡ of_tick (before + 1) (own_exts script))
 
-next_past : (script : Script) (before : ℕ) (past : List Ext) (items : List DoDef) → IsNext script before past items
-    → past ++ map ext_of items ≡ history_to script (before + 1)
+next_past : (script : Script) (before : ℕ) (past : List Ext) (items : List Ext) → IsNext script before past items
+    → past ++ items ≡ history_to script (before + 1)
 next_past script before past items is =
-    ap (λ (l : List Ext). l ++ map ext_of items) is.0
+    ap (λ (l : List Ext). l ++ items) is.0
     ∙ ap (λ (l : List Ext). history_to script before ++ l) (items_are_batch script (before + 1) items is.1) ∙ sym (history_to-one_more script before)
 
-next_history : (script : Script) (calls : Bool) (before : ℕ) (past : List Ext) (items : List DoDef) → IsNext script before past items
-    → later_text script calls [] (history_to script (before + 1)) ≡ later_text script calls [] (history_to script before) ++ later_text script calls past (map ext_of items)
+next_history : (script : Script) (calls : Bool) (before : ℕ) (past : List Ext) (items : List Ext) → IsNext script before past items
+    → later_text script calls [] (history_to script (before + 1)) ≡ later_text script calls [] (history_to script before) ++ later_text script calls past items
 next_history script calls before past items is =
-    ap (later_text script calls []) (sym (next_past script before past items is)) ∙ later_text-append script calls [] past (map ext_of items)
-    ∙ ap (λ (l : List Ext). later_text script calls [] l ++ later_text script calls past (map ext_of items)) is.0
+    ap (later_text script calls []) (sym (next_past script before past items is)) ∙ later_text-append script calls [] past items
+    ∙ ap (λ (l : List Ext). later_text script calls [] l ++ later_text script calls past items) is.0
 
-pub batch_named : (script : Script) (before : ℕ) (items : List DoDef) → IsInRange script → items ≡ of_tick (before + 1) script.does → All (IsExtOf script) (map ext_of items)
+pub batch_named : (script : Script) (before : ℕ) (items : List Ext) → IsInRange script → items ≡ of_tick (before + 1) (own_exts script) → All (IsExtOf script) items
 batch_named script before items range e =
     let P : List Ext → Type 0 = All (IsExtOf script) in
     subst P (sym (items_are_batch script (before + 1) items e)) (batch-in_range script (before + 1) range)
 
-pub batch_few : (script : Script) (before : ℕ) (past : List Ext) (items : List DoDef) → IsInRange script → IsNext script before past items
+pub batch_few : (script : Script) (before : ℕ) (past : List Ext) (items : List Ext) → IsInRange script → IsNext script before past items
     → length past + length items ≤ 100000
 batch_few script before past items range is =
-    let as_many : length (past ++ map ext_of items) ≡ length (history_to script (before + 1)) = ap (λ (l : List Ext). length l) (next_past script before past items is) in
-    omega (arith, as_many, length-append past (map ext_of items), length-map items ext_of, few_to script (before + 1), range.few_does)
+    let as_many : length (past ++ items) ≡ length (history_to script (before + 1)) = ap (λ (l : List Ext). length l) (next_past script before past items is) in
+    omega (arith, as_many, length-append past items, few_to script (before + 1), range.few_does)
 
 -- one tick more was run and written
-pub has_run-batch : (script : Script) (before : ℕ) (past : List Ext) (items : List DoDef) (core : Trace) (totals : Totals) → IsNext script before past items
-    → HasRun script (past ++ map ext_of items) core totals → HasRun script (history_to script (before + 1)) core totals
+pub has_run-batch : (script : Script) (before : ℕ) (past : List Ext) (items : List Ext) (core : Trace) (totals : Totals) → IsNext script before past items
+    → HasRun script (past ++ items) core totals → HasRun script (history_to script (before + 1)) core totals
 has_run-batch script before past items core totals is has =
     let H : List Ext → Type 0 = λ l. HasRun script l core totals in subst H (next_past script before past items is) has
 
-pub wrote_batch : (script : Script) (calls : Bool) (before : ℕ) (past : List Ext) (items : List DoDef) (old mid new : Option (List ℕ)) → IsNext script before past items
-    → Appends old mid (later_text script calls [] (history_to script before)) → Appends mid new (later_text script calls past (map ext_of items))
+pub wrote_batch : (script : Script) (calls : Bool) (before : ℕ) (past : List Ext) (items : List Ext) (old mid new : Option (List ℕ)) → IsNext script before past items
+    → Appends old mid (later_text script calls [] (history_to script before)) → Appends mid new (later_text script calls past items)
     → Appends old new (later_text script calls [] (history_to script (before + 1)))
 wrote_batch script calls before past items old mid new is first next =
     let P : List ℕ → Type 0 = Appends old new in
@@ -96,8 +110,8 @@ part_of_history script calls n old new within p =
     = ap (later_text script calls []) (history-is script ∙ ap (history_to script) all ∙ rest.1) ∙ later_text-append script calls [] (history_to script n) rest.0 in
     subst P (sym same) (part_more old new _ _ p)
 
-pub wrote_batch_in_part : (script : Script) (calls : Bool) (before : ℕ) (past : List Ext) (items : List DoDef) (old mid new : Option (List ℕ)) → before < script.ticks → IsNext script before past items
-    → Appends old mid (later_text script calls [] (history_to script before)) → AppendsPrefix mid new (later_text script calls past (map ext_of items))
+pub wrote_batch_in_part : (script : Script) (calls : Bool) (before : ℕ) (past : List Ext) (items : List Ext) (old mid new : Option (List ℕ)) → before < script.ticks → IsNext script before past items
+    → Appends old mid (later_text script calls [] (history_to script before)) → AppendsPrefix mid new (later_text script calls past items)
     → AppendsPrefix old new (later_text script calls [] (history script))
 wrote_batch_in_part script calls before past items old mid new within is first next =
     let P : List ℕ → Type 0 = AppendsPrefix old new in

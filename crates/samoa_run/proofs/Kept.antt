@@ -11,7 +11,7 @@ use Rattle.samoa_serial.specs.Alone.{next_step}
 use Rattle.samoa_invariant.specs.Play.{Play}
 use Rattle.samoa_invariant.specs.State as model
 use Rattle.samoa_invariant.specs.Runs.{IsRising, IsRun, Trace, after_step, clear_at, cleared, is_clear, play, run_from, state}
-use Rattle.samoa_core.specs.Scans.{IsLater}
+use Rattle.samoa_core.specs.Later.{IsLater}
 use Rattle.samoa_core.specs.Since.{admissions, cleared_comps, last_of}
 
 last-most : (before least : ℕ) (clears : List ℕ) (most : ℕ) → IsRising least clears most → before ≤ most → last_of before clears ≤ most

@@ -1,21 +1,17 @@
 -- Admissions to a core in which nothing is out.
-use Rattle.std.proofs.Common.{arith, ◌≡◌, ℕ, zero, suc, ◌+◌, ◌*◌, ◌<◌, ◌≤◌, refl, sym, ap, ◌∙◌, List, [], ◌∷◌, ◌++◌, append_assoc, append-nil, length, map, get_or, Some, slice_get, take, subst}
-use Rattle.std.specs.List.{All}
-use Rattle.std.specs.Prelude.{option_map}
-use Rattle.std.proofs.lemmas.List.{get_or-map, length-map}
+use Rattle.std.proofs.Common.{arith, ◌≡◌, ℕ, zero, suc, ◌+◌, ◌*◌, ◌<◌, ◌≤◌, refl, sym, ap, ◌∙◌, List, [], ◌∷◌, ◌++◌, append_assoc, append-nil, length, get_or, Some, slice_get, take, subst}
 use Rattle.std.proofs.lemmas.List.Elements.{All-get_or}
-use Rattle.std.proofs.lemmas.Option.{slice_get-map, slice_get-get_or}
+use Rattle.std.specs.List.{All}
+use Rattle.std.proofs.lemmas.Option.{slice_get-get_or}
 use Rattle.samoa_model.specs.declared.record.Ext.{Ext}
 use Rattle.samoa_model.specs.declared.record.Step.{Step}
 use Rattle.samoa_model.specs.declared.script.DeclDef.{DeclDef}
-use Rattle.samoa_model.specs.declared.script.DoDef.{DoDef}
 use Rattle.samoa_model.specs.declared.script.Script.{Script}
 use Rattle.samoa_model.specs.Cells.{cells_of, greatest_budget, need}
 use Rattle.samoa_model.specs.Scripts.{decl_of, no_decl}
-use Rattle.samoa_serial.specs.History.{ext_of}
 use Rattle.samoa_invariant.specs.State as model
 use Rattle.samoa_invariant.specs.Runs.{IsRun, Trace, ext_at, no_ext, play, state, with_ext}
-use Rattle.samoa_invariant.proofs.Traces.{is_run-with_ext, state-ext, state-step}
+use Rattle.samoa_invariant.proofs.representation.Traces.{is_run-with_ext, state-ext, state-step}
 use Rattle.samoa_core.specs.Admission.{admitted}
 use Rattle.samoa_core.specs.Since.{cleared_comps}
 use Rattle.samoa_core.proofs.Since.{cleared-ext, cleared-step}
@@ -83,17 +79,12 @@ some_opened t u exts zero most some within room opened none_held wide =
     absurd (omega (arith, too_wide, fits))
 some_opened t u exts (suc n) most some within room opened none_held wide = omega arith
 
--- an item as an admission
-pub item_there : (items : List DoDef) (i : ℕ) (item : DoDef) (ext : Ext) → i < length items → item ≡ get_or items i item → ext ≡ ext_of item → slice_get (map ext_of items) i ≡ Some ext
-item_there items i item ext within is e =
-    slice_get-map ext_of items i
-    ∙ (ap (option_map ext_of) (slice_get-get_or items i item within) ∙ ap (λ (x : Ext). Some x) (ap ext_of (sym is) ∙ sym e))
+-- one of the admissions
+pub item_there : (exts : List Ext) (i : ℕ) (ext : Ext) → i < length exts → ext ≡ get_or exts i ext → slice_get exts i ≡ Some ext
+item_there exts i ext within is = slice_get-get_or exts i ext within ∙ ap (λ (x : Ext). Some x) (sym is)
 
-pub item_named : (P : Ext → Type 0) (items : List DoDef) (i : ℕ) (item : DoDef) (ext : Ext) → i < length items → item ≡ get_or items i item → ext ≡ ext_of item
-    → All P (map ext_of items) → P ext
-item_named P items i item ext within is e all =
-    let as_many : i < length (map ext_of items) = omega (arith, length-map items ext_of) in
-    subst P (get_or-map ext_of items i item ext within ∙ (ap ext_of (sym is) ∙ sym e)) (All-get_or P (map ext_of items) i ext as_many all)
+pub item_named : (P : Ext → Type 0) (exts : List Ext) (i : ℕ) (ext : Ext) → i < length exts → ext ≡ get_or exts i ext → All P exts → P ext
+item_named P exts i ext within is all = subst P (sym is) (All-get_or P exts i ext within all)
 
 pub some_same : (x y : Ext) → Some x ≡ Some y → x ≡ y
 some_same x y e = cc

@@ -8,8 +8,8 @@ use Rattle.samoa_model.specs.Cells.{need}
 use Rattle.samoa_invariant.specs.State as model
 use Rattle.samoa_invariant.specs.State.{AllEnded, NothingOut}
 use Rattle.samoa_invariant.specs.Runs.{Trace, cleared, state, with_clear}
-use Rattle.samoa_invariant.proofs.Traces.{state-clear}
-use Rattle.samoa_core.specs.Scans.{IsLater}
+use Rattle.samoa_invariant.proofs.representation.Traces.{state-clear}
+use Rattle.samoa_core.specs.Later.{IsLater}
 use Rattle.samoa_core.specs.Since.{cleared_comps}
 use Rattle.samoa_core.proofs.Since.{cleared-clear}
 use Rattle.samoa_run.specs.declared.totals.Totals.{Totals}

@@ -1,5 +1,5 @@
 -- How a call of the top ends.
-use Rattle.std.proofs.Common.{◌≡◌, ◌⊎◌, ℕ, true, false, ◌≤◌, ◌<◌, List, ◌++◌, length, None, Some, Result, Ok, Err, refl, sym, ap, ◌∙◌, subst, inl, inr, arith, append-nil, length-append, rules}
+use Rattle.std.proofs.Common.{◌≡◌, ◌⊎◌, ℕ, Bool, true, false, cond, ◌==◌, ◌≤◌, ◌<◌, List, ◌++◌, length, None, Some, Result, Ok, Err, refl, sym, ap, ◌∙◌, subst, inl, inr, arith, append-nil, length-append, rules}
 use Rattle.std.specs.declared.option.Option.{Option}
 use Rattle.std.specs.Io.KnownBytes.{Appends, Consumes, IsAtEnd}
 use Rattle.samoa_model.specs.declared.script.Script.{Script}
@@ -9,8 +9,13 @@ use Rattle.samoa_script.specs.declared.fault.ScriptFault.{ScriptFault}
 use Rattle.samoa_script.specs.declared.fault.ScriptFault.TheVariants.{TooLong, NotJson, Missing, WrongForm, Unknown, Twice, Over, Memory}
 use Rattle.samoa_script.proofs.Apart.{one_script, answers_apart}
 use Rattle.samoa_run.specs.Readings.{IsFaultOf, IsReading}
-use Rattle.samoa_run.specs.Due.{is_memory}
-use Rattle.samoa_run.specs.Serving.{Answers}
+use Rattle.samoa_run.specs.declared.status.Status.{Status}
+use Rattle.samoa_run.specs.declared.status.Status.TheVariants as statuses
+use Rattle.samoa_run.specs.declared.status.Status.TheVariants.{Done, Usage, Refused, SourceFailed, SinkFailed}
+use Rattle.samoa_run.specs.declared.words.Order.{Order}
+use Rattle.samoa_run.specs.Statuses.{number}
+use Rattle.samoa_run.specs.Due.{IsAnswerTo, IsOutput, IsTreated, can_do, due_status, is_memory, status_if, turned_away_line}
+use Rattle.samoa_run.specs.Serving.{Answers, AnswersOne, IsDueOrFailed}
 
 -- what was read is the input, where that is no longer than the limit
 read_all : (a b : Option (List ℕ)) (input bytes : List ℕ) → a ≡ Some input → Consumes a b bytes → (length bytes ≤ 1048576 → IsAtEnd b)
@@ -91,14 +96,71 @@ reading_of_input a b input bytes text r told taken end same here = either (short
         subst R (sym long.1) (over, λ e. absurd (cc))
 
 -- the due status, or a fault of the sink or want of memory
-pub later_status : (status due : ℕ) → (status ≡ due) ⊎ ((status ≡ 5) ⊎ (status ≡ 6)) → (status ≡ due) ⊎ ((status ≡ 4) ⊎ ((status ≡ 5) ⊎ (status ≡ 6)))
+pub later_status : (status : Status) (due : ℕ) → (number status ≡ due) ⊎ ((status ≡ SinkFailed) ⊎ (status ≡ statuses.Memory)) → IsDueOrFailed due (number status)
 later_status status due (inl is) = inl is
-later_status status due (inr rest) = inr (inr rest)
+later_status status due (inr (inl is)) = inr (inr (inl (ap number is)))
+later_status status due (inr (inr is)) = inr (inr (inr (ap number is)))
 
-pub due_three : (status due : ℕ) → status ≡ 3 → (status ≡ due) ⊎ ((status ≡ 5) ⊎ (status ≡ 6)) → due ≡ 3
-due_three status due three (inl is) = sym is ∙ three
-due_three status due three (inr (inl five)) = absurd (omega (arith, three, five))
-due_three status due three (inr (inr six)) = absurd (omega (arith, three, six))
+pub refused_status : (status : Status) → (status ≡ Refused) ⊎ ((status ≡ SinkFailed) ⊎ (status ≡ statuses.Memory)) → IsDueOrFailed (number Refused) (number status)
+refused_status status (inl is) = inl (ap number is)
+refused_status status (inr (inl is)) = inr (inr (inl (ap number is)))
+refused_status status (inr (inr is)) = inr (inr (inr (ap number is)))
+
+pub due_refused : (status : Status) (due : ℕ) → status ≡ Refused → (number status ≡ due) ⊎ ((status ≡ SinkFailed) ⊎ (status ≡ statuses.Memory)) → due ≡ number Refused
+due_refused status due refused (inl is) = sym is ∙ ap number refused
+due_refused status due refused (inr (inl is)) = absurd (cc)
+due_refused status due refused (inr (inr is)) = absurd (cc)
+
+-- a number tells its status
+pub number-same : (a b : Status) → number a ≡ number b → a ≡ b
+number-same a b e = sym (back a) ∙ (ap named e ∙ back b)
+  where
+    named : ℕ → Status
+    named n = cond (n == 0) Done (cond (n == 2) Usage (cond (n == 3) Refused (cond (n == 4) SourceFailed (cond (n == 5) SinkFailed statuses.Memory))))
+    back : (s : Status) → named (number s) ≡ s
+    back Done = refl
+    back Usage = refl
+    back Refused = refl
+    back SourceFailed = refl
+    back SinkFailed = refl
+    back statuses.Memory = refl
+
+-- a text that is meant answers
+pub one_of : {due : ℕ} {meant : List ℕ → Type 0} {old new : Option (List ℕ)} {status : ℕ} (text : List ℕ) → meant text → Answers due text old new status
+    → AnswersOne due meant old new status
+one_of text is answers = record {
+  whole = λ e. record { text = text; is_meant = is; all = answers.whole e };
+  sink_failed = λ e. record { text = text; is_meant = is; part = answers.sink_failed e };
+  memory = λ e. record { text = text; is_meant = is; part = answers.memory e };
+  source_failed = answers.source_failed;
+  no_other = answers.no_other;
+}
+
+-- where one text alone is meant, that text answers
+pub the_one : {due : ℕ} {old new : Option (List ℕ)} {status : ℕ} (text : List ℕ) → AnswersOne due (λ t. t ≡ text) old new status → Answers due text old new status
+the_one {old = old} {new = new} text answers =
+    let W : List ℕ → Type 0 = Appends old new in
+    let P : List ℕ → Type 0 = AppendsPrefix old new in
+    record {
+      whole = λ e. let wrote = answers.whole e in subst W wrote.is_meant wrote.all;
+      sink_failed = λ e. let began = answers.sink_failed e in subst P began.is_meant began.part;
+      memory = λ e. let began = answers.memory e in subst P began.is_meant began.part;
+      source_failed = answers.source_failed;
+      no_other = answers.no_other;
+    }
+
+-- a script that can be treated as ordered, and one that can't
+pub treats : {order : Order} {script : Script} {old new : Option (List ℕ)} {status : ℕ} (text : List ℕ) → can_do order script ≡ true → IsOutput order script text
+    → Answers (number Done) text old new status → AnswersOne (due_status order (Ok script)) (IsAnswerTo order (Ok script)) old new status
+treats {order = order} {script = script} {old = old} {new = new} {status = status} text can is answers =
+    let F : Bool → Type 0 = λ b. AnswersOne (status_if b) (IsTreated b order script) old new status in
+    subst F (sym can) (one_of text is answers)
+
+pub turns_away : {order : Order} {script : Script} {old new : Option (List ℕ)} {status : ℕ} (text : List ℕ) → can_do order script ≡ false → text ≡ turned_away_line order script
+    → Answers (number Refused) text old new status → AnswersOne (due_status order (Ok script)) (IsAnswerTo order (Ok script)) old new status
+turns_away {order = order} {script = script} {old = old} {new = new} {status = status} text can is answers =
+    let F : Bool → Type 0 = λ b. AnswersOne (status_if b) (IsTreated b order script) old new status in
+    subst F (sym can) (one_of text is answers)
 
 pub not_memory : (fault : ScriptFault) → is_memory fault ≡ false → fault ≡ Memory → ⊥
 not_memory fault other is = let yes : is_memory fault ≡ true = ap is_memory is in absurd (cc)

@@ -1,5 +1,5 @@
 -- What is due for an order: what is to be written, and with which status.
-use Rattle.std.specs.Prelude.{ℕ, ◌++◌, Bool, true, false, ◌&&◌, List, nat_le, codes, decimal, Result, Ok, Err, if◌then◌else◌}
+use Rattle.std.specs.Prelude.{◌≡◌, ℕ, ◌++◌, Bool, true, false, ◌&&◌, List, nat_le, codes, decimal, Result, Ok, Err, if◌then◌else◌}
 use Rattle.samoa_model.specs.declared.script.Script.{Script}
 use Rattle.samoa_model.specs.Cells.{need}
 use Rattle.samoa_serial.specs.Report.{report}
@@ -11,6 +11,9 @@ use Rattle.samoa_run.specs.declared.words.Order.{Order}
 use Rattle.samoa_run.specs.declared.words.Order.TheVariants.{Run, Serial, Check}
 use Rattle.samoa_run.specs.declared.stop.Stop.{Stop}
 use Rattle.samoa_run.specs.declared.stop.Stop.TheVariants as stops
+use Rattle.samoa_run.specs.declared.status.Status.TheVariants as statuses
+use Rattle.samoa_run.specs.declared.status.Status.TheVariants.{Done, Refused, SinkFailed}
+use Rattle.samoa_run.specs.Statuses.{number}
 use Rattle.samoa_run.specs.Built.{is_built}
 
 -- whether a script that is held can be treated as ordered by now
@@ -27,11 +30,14 @@ has_cells _ script = true
 abbrev pub can_do : Order → Script → Bool
 can_do order script = can_run order script && has_cells order script
 
--- what is written for a script
-abbrev pub output : Order → Script → List ℕ
-output (Run cells calls) script = report script calls
-output (Serial calls) script = report script calls
-output Check script = compact_text (tree_of script) ++ codes "\n"
+abbrev pub canonical_text : Script → List ℕ
+canonical_text script = compact_text (tree_of script) ++ codes "\n"
+
+-- what may be written for a script
+abbrev pub IsOutput : Order → Script → List ℕ → Type 0
+IsOutput (Run cells calls) script text = text ≡ report script calls
+IsOutput (Serial calls) script text = text ≡ report script calls
+IsOutput Check script text = text ≡ canonical_text script
 
 abbrev pub not_yet_line : List ℕ
 not_yet_line = codes "! script NotYet\n"
@@ -63,17 +69,26 @@ fault_text Memory = codes "Memory"
 abbrev pub fault_line : ScriptFault → List ℕ
 fault_line fault = codes "! script " ++ (fault_text fault ++ codes "\n")
 
--- the status and the text that are due for what was read
-abbrev pub due_status : Order → Result Script ScriptFault → ℕ
-due_status order (Ok script) = if can_do order script then 0 else 3
-due_status order (Err fault) = 3
+-- the status that is due for a script, where it can be treated as ordered or not, and what may be written then
+abbrev pub status_if : Bool → ℕ
+status_if true = number Done
+status_if false = number Refused
 
-abbrev pub due_text : Order → Result Script ScriptFault → List ℕ
-due_text order (Ok script) = if can_do order script then output order script else turned_away_line order script
-due_text order (Err fault) = fault_line fault
+abbrev pub IsTreated : Bool → Order → Script → List ℕ → Type 0
+IsTreated true order script text = IsOutput order script text
+IsTreated false order script text = text ≡ turned_away_line order script
+
+-- the status that is due for what was read, and what may be written
+abbrev pub due_status : Order → Result Script ScriptFault → ℕ
+due_status order (Ok script) = status_if (can_do order script)
+due_status order (Err fault) = number Refused
+
+abbrev pub IsAnswerTo : Order → Result Script ScriptFault → List ℕ → Type 0
+IsAnswerTo order (Ok script) text = IsTreated (can_do order script) order script text
+IsAnswerTo order (Err fault) text = text ≡ fault_line fault
 
 -- the status that what was written ends with
 abbrev pub ended_with : {T : Type 0} → Result T Stop → ℕ
-ended_with (Ok done) = 0
-ended_with (Err stops.Failed) = 5
-ended_with (Err stops.Memory) = 6
+ended_with (Ok done) = number Done
+ended_with (Err stops.Failed) = number SinkFailed
+ended_with (Err stops.Memory) = number statuses.Memory

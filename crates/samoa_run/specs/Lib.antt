@@ -1,8 +1,9 @@
+pub mod Statuses
 pub mod Built
+pub mod Words
 pub mod Due
 pub mod Reading
 pub mod Readings
 pub mod Running
 pub mod Schedule
 pub mod Serving
-pub mod Words

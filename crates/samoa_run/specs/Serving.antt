@@ -8,7 +8,10 @@ use Rattle.samoa_grammar.specs.Held.{Holds}
 use Rattle.samoa_script.specs.declared.fault.ScriptFault.{ScriptFault}
 use Rattle.samoa_run.specs.Readings.{IsFaultOf}
 use Rattle.samoa_run.specs.declared.words.Order.{Order}
-use Rattle.samoa_run.specs.Due.{can_do, output, turned_away_line, fault_line}
+use Rattle.samoa_run.specs.declared.TheConstants.{LIMIT}
+use Rattle.samoa_run.specs.declared.status.Status.TheVariants.{Done, Refused, SourceFailed, SinkFailed, Memory}
+use Rattle.samoa_run.specs.Statuses.{number}
+use Rattle.samoa_run.specs.Due.{IsOutput, can_do, turned_away_line, fault_line}
 use Rattle.samoa_run.specs.declared.stop.Stop.{Stop}
 use Rattle.samoa_run.specs.declared.stop.Stop.TheVariants.{Failed}
 
@@ -17,13 +20,38 @@ pub record StopsFor {T : Type 0} (before now : ℕ) (result : Result T Stop) : T
   pub later : before ≤ now
   pub failed : IsErrOf result Failed → Rose before now
 
--- this text is due, with this status: all of it is written at that status, a prefix of it at 5 and 6, and nothing at 4
+-- the status is due, or it says that a source or a sink failed or that there was no memory
+abbrev pub IsDueOrFailed : ℕ → ℕ → Type 0
+IsDueOrFailed due status =
+    (status ≡ due) ⊎ ((status ≡ number SourceFailed) ⊎ ((status ≡ number SinkFailed) ⊎ (status ≡ number Memory)))
+
+-- this text is due, with this status: all of it is written at that status, a prefix of it where a write failed or there was
+-- no memory, and nothing where a read failed
 pub record Answers (due : ℕ) (text : List ℕ) (old new : Option (List ℕ)) (status : ℕ) : Type 0 where
   pub whole : status ≡ due → Appends old new text
-  pub sink_failed : status ≡ 5 → AppendsPrefix old new text
-  pub memory : status ≡ 6 → AppendsPrefix old new text
-  pub source_failed : status ≡ 4 → Appends old new []
-  pub no_other : (status ≡ due) ⊎ ((status ≡ 4) ⊎ ((status ≡ 5) ⊎ (status ≡ 6)))
+  pub sink_failed : status ≡ number SinkFailed → AppendsPrefix old new text
+  pub memory : status ≡ number Memory → AppendsPrefix old new text
+  pub source_failed : status ≡ number SourceFailed → Appends old new []
+  pub no_other : IsDueOrFailed due status
+
+-- one of the texts that are meant was written, all of it or a prefix
+pub record Wrote (meant : List ℕ → Type 0) (old new : Option (List ℕ)) : Type 0 where
+  pub text : List ℕ
+  pub is_meant : meant text
+  pub all : Appends old new text
+
+pub record Began (meant : List ℕ → Type 0) (old new : Option (List ℕ)) : Type 0 where
+  pub text : List ℕ
+  pub is_meant : meant text
+  pub part : AppendsPrefix old new text
+
+-- one of the texts that are meant is due, with this status
+pub record AnswersOne (due : ℕ) (meant : List ℕ → Type 0) (old new : Option (List ℕ)) (status : ℕ) : Type 0 where
+  pub whole : status ≡ due → Wrote meant old new
+  pub sink_failed : status ≡ number SinkFailed → Began meant old new
+  pub memory : status ≡ number Memory → Began meant old new
+  pub source_failed : status ≡ number SourceFailed → Appends old new []
+  pub no_other : IsDueOrFailed due status
 
 -- an input that is refused: it has a fault, or what it holds can't be treated as ordered
 pub data IsRefused (order : Order) (input : List ℕ) : Type 0 where
@@ -49,18 +77,18 @@ pub record NoFault (ends : Ends) : Type 0 where
 -- an order was carried out with this status
 pub record Obeys (order : Order) (ends : Ends) (status : ℕ) : Type 0 where
   pub done : (input : List ℕ) (script : Script) → ends.left ≡ Some input → Holds input script → can_do order script ≡ true
-      → Answers 0 (output order script) ends.written ends.written_after status
+      → AnswersOne (number Done) (IsOutput order script) ends.written ends.written_after status
   pub turned_away : (input : List ℕ) (script : Script) → ends.left ≡ Some input → Holds input script → can_do order script ≡ false
-      → Answers 3 (turned_away_line order script) ends.written ends.written_after status
+      → Answers (number Refused) (turned_away_line order script) ends.written ends.written_after status
   pub refused : (input : List ℕ) (fault : ScriptFault) → ends.left ≡ Some input → IsFaultOf input fault
-      → Answers 3 (fault_line fault) ends.written ends.written_after status
-  pub refused_only : (input : List ℕ) → ends.left ≡ Some input → status ≡ 3 → IsRefused order input
+      → Answers (number Refused) (fault_line fault) ends.written ends.written_after status
+  pub refused_only : (input : List ℕ) → ends.left ≡ Some input → status ≡ number Refused → IsRefused order input
   pub complete : (input : List ℕ) (script : Script) → ends.left ≡ Some input → Holds input script → can_do order script ≡ true
-      → NoFault ends → (status ≡ 0) ⊎ (status ≡ 6)
+      → NoFault ends → (status ≡ number Done) ⊎ (status ≡ number Memory)
   pub complete_refused : (input : List ℕ) → ends.left ≡ Some input → IsRefused order input
-      → NoFault ends → (status ≡ 3) ⊎ (status ≡ 6)
-  pub read : status ≡ 0 → IsAtEnd ends.left_after
-  pub refused_read : (input : List ℕ) → ends.left ≡ Some input → length input ≤ 1048576 → status ≡ 3 → IsAtEnd ends.left_after
-  pub source_failed : status ≡ 4 → Rose ends.source_faults ends.source_faults_after
-  pub sink_failed : status ≡ 5 → Rose ends.sink_faults ends.sink_faults_after
-  pub statuses : (status ≡ 0) ⊎ (status ≡ 3) ⊎ (status ≡ 4) ⊎ (status ≡ 5) ⊎ (status ≡ 6)
+      → NoFault ends → (status ≡ number Refused) ⊎ (status ≡ number Memory)
+  pub read : status ≡ number Done → IsAtEnd ends.left_after
+  pub refused_read : (input : List ℕ) → ends.left ≡ Some input → length input ≤ LIMIT → status ≡ number Refused → IsAtEnd ends.left_after
+  pub source_failed : status ≡ number SourceFailed → Rose ends.source_faults ends.source_faults_after
+  pub sink_failed : status ≡ number SinkFailed → Rose ends.sink_faults ends.sink_faults_after
+  pub statuses : (status ≡ number Done) ⊎ IsDueOrFailed (number Refused) status

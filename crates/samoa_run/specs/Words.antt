@@ -1,7 +1,12 @@
 -- The words of the command line, and what they ask for.
-use Rattle.std.specs.Prelude.{ℕ, ◌+◌, ◌*◌, ◌-◌, ◌==◌, Bool, true, false, ◌&&◌, List, [], ◌∷◌, nat_le, codes, bytes_eq, Option, Some, None, option_map, if◌then◌else◌}
+use Rattle.std.specs.Prelude.{ℕ, ◌+◌, ◌*◌, ◌-◌, ◌==◌, Bool, true, false, ◌&&◌, not, List, [], ◌∷◌, nat_le, codes, bytes_eq, Option, Some, None, is_none, option_map, option_and_then, if◌then◌else◌}
+use Rattle.samoa_run.specs.declared.TheConstants.{CELLS, MOST_CELLS}
+use Rattle.samoa_run.specs.declared.words.Numbered.{Numbered}
+use Rattle.samoa_run.specs.declared.words.Numbered.TheVariants.{Cells}
+use Rattle.samoa_run.specs.declared.words.Options.{Options}
 use Rattle.samoa_run.specs.declared.words.Order.{Order}
 use Rattle.samoa_run.specs.declared.words.Order.TheVariants.{Run, Serial, Check}
+use Rattle.samoa_run.specs.declared.words.Taken.{Taken}
 
 abbrev pub is_digit : ℕ → Bool
 is_digit d = nat_le 48 d && nat_le d 57
@@ -16,26 +21,55 @@ abbrev pub number_in : ℕ → List ℕ → Option ℕ
 number_in most [] = None
 number_in most (d ∷ ds) = if d == 48 then None else number_from most 0 (d ∷ ds)
 
--- how many cells, from 1 to 1,048,576
-abbrev pub cells_in : List ℕ → Option ℕ
-cells_in text = number_in 1048576 text
+-- no option yet
+abbrev pub no_options : Options
+no_options = record { cells = None; calls = false }
 
--- whether `--calls` is the one option, or there is none
-abbrev pub calls_in : List (List ℕ) → Option Bool
-calls_in [] = Some false
-calls_in (option ∷ []) = if bytes_eq option (codes "--calls") then Some true else None
-calls_in (option ∷ more ∷ rest) = None
-
--- a run with the options `--cells` and `--calls`, in any order, each at most once; with 65,536 cells where none are given
-abbrev pub run_in : List (List ℕ) → Option Order
-run_in [] = Some (Run 65536 false)
-run_in (a ∷ []) = if bytes_eq a (codes "--calls") then Some (Run 65536 true) else None
-run_in (a ∷ b ∷ []) = if bytes_eq a (codes "--cells") then option_map (λ cells. Run cells false) (cells_in b) else None
-run_in (a ∷ b ∷ c ∷ []) =
-    if bytes_eq a (codes "--calls") && bytes_eq b (codes "--cells") then option_map (λ cells. Run cells true) (cells_in c) else
-    if bytes_eq a (codes "--cells") && bytes_eq c (codes "--calls") then option_map (λ cells. Run cells true) (cells_in b) else
+-- after an option's word, which stood nowhere before
+abbrev pub with_option : Options → List ℕ → Option Taken
+with_option options word =
+    if bytes_eq word (codes "--calls") && not options.calls then Some (record { options = record options { calls = true }; awaits = None }) else
+    if bytes_eq word (codes "--cells") && is_none options.cells then Some (record { options = options; awaits = Some Cells }) else
     None
-run_in (a ∷ b ∷ c ∷ d ∷ rest) = None
+
+-- after the number of an option: from 1 to 1,048,576 cells
+abbrev pub with_number : Options → Numbered → List ℕ → Option Options
+with_number options Cells word = option_map (λ cells. record options { cells = Some cells }) (number_in MOST_CELLS word)
+
+-- after one word more: the number of the option that awaits one, else an option's word
+abbrev pub word_after : Options → Option Numbered → List ℕ → Option Taken
+word_after options None word = with_option options word
+word_after options (Some numbered) word = option_map (λ more. record { options = more; awaits = None }) (with_number options numbered word)
+
+abbrev pub with_word : Taken → List ℕ → Option Taken
+with_word taken word = word_after taken.options taken.awaits word
+
+-- the options, unless the number of one is missing
+abbrev pub unless_awaiting : Options → Option Numbered → Option Options
+unless_awaiting options None = Some options
+unless_awaiting options (Some numbered) = None
+
+-- the options that stand in the words, after those before them
+abbrev pub options_from : Option Taken → List (List ℕ) → Option Options
+options_from None words = None
+options_from (Some taken) [] = unless_awaiting taken.options taken.awaits
+options_from (Some taken) (word ∷ rest) = options_from (with_word taken word) rest
+
+-- the options, in any order, each at most once
+abbrev pub options_in : List (List ℕ) → Option Options
+options_in words = options_from (Some (record { options = no_options; awaits = None })) words
+
+-- 65,536 cells where none are given
+abbrev pub cells_or_default : Option ℕ → ℕ
+cells_or_default None = CELLS
+cells_or_default (Some cells) = cells
+
+abbrev pub run_with : Options → Order
+run_with options = Run (cells_or_default options.cells) options.calls
+
+-- a serial run takes no cells
+abbrev pub serial_with : Options → Option Order
+serial_with options = if is_none options.cells then Some (Serial options.calls) else None
 
 abbrev pub when_alone : List (List ℕ) → Option Order
 when_alone [] = Some Check
@@ -45,8 +79,8 @@ when_alone (option ∷ rest) = None
 abbrev pub order_in : List (List ℕ) → Option Order
 order_in [] = None
 order_in (word ∷ options) =
-    if bytes_eq word (codes "run") then run_in options else
-    if bytes_eq word (codes "serial") then option_map (λ calls. Serial calls) (calls_in options) else
+    if bytes_eq word (codes "run") then option_map run_with (options_in options) else
+    if bytes_eq word (codes "serial") then option_and_then serial_with (options_in options) else
     if bytes_eq word (codes "check") then when_alone options else
     None
 

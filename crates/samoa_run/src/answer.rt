@@ -4,12 +4,14 @@ ghost use Rattle.samoa_model.specs.Range.{IsInRange};
 ghost use Rattle.samoa_model.specs.declared.setup.Kind.TheVariants.{Prog};
 ghost use Rattle.samoa_ends.specs.Causes.{Rose};
 ghost use Rattle.samoa_micro.specs.Covers.{count_of};
-ghost use Rattle.samoa_run.specs.Due.{due_status, due_text, ended_with, fault_line as line_of, few_cells, output};
-ghost use Rattle.samoa_run.specs.Serving.{Answers};
+ghost use Rattle.samoa_run.specs.Due.{IsAnswerTo, canonical_text, due_status, ended_with, fault_line as line_of, few_cells};
+ghost use Rattle.samoa_run.specs.Serving.{Answers, AnswersOne};
+ghost use Rattle.samoa_run.specs.Statuses.{number};
 
 use crate::fault::{cells_line, fault_line};
 use crate::ready::built;
 use crate::report::run_script;
+use crate::status::Status;
 use crate::stop::Stop;
 use crate::words::{CELLS, Order};
 use crate::writing::write_lines;
@@ -28,12 +30,12 @@ pub fn treat<K: Sink, B: Micro>(
     script: &Script,
     stock: Stock<B>,
     sink: &mut K,
-) -> u8
+) -> Status
     requires in_range { IsInRange script.now }
     requires stock { 32 ≤ count_of stock Prog }
-    ensures written { Answers (due_status order (Ok script.now)) (due_text order (Ok script.now)) (K.written sink.old) (K.written sink.new) result }
-    ensures statuses { (result ≡ due_status order (Ok script.now)) ⊎ (result ≡ 5) ⊎ (result ≡ 6) }
-    ensures sink_failed { result ≡ 5 → Rose (K.faults sink.old) (K.faults sink.new) }
+    ensures written { AnswersOne (due_status order (Ok script.now)) (IsAnswerTo order (Ok script.now)) (K.written sink.old) (K.written sink.new) (number result) }
+    ensures statuses { (number result ≡ due_status order (Ok script.now)) ⊎ (result ≡ Status.SinkFailed) ⊎ (result ≡ Status.Memory) }
+    ensures sink_failed { result ≡ Status.SinkFailed → Rose (K.faults sink.old) (K.faults sink.new) }
 {
     match order {
         Order::Check => write_canonical(alloc, script, sink),
@@ -50,15 +52,15 @@ fn run_in_parts<K: Sink, B: Micro>(
     cells: u32,
     calls: bool,
     sink: &mut K,
-) -> u8
+) -> Status
     requires in_range { IsInRange script.now }
     requires stock { 32 ≤ count_of stock Prog }
-    ensures written { Answers (due_status (Order.Run cells calls) (Ok script.now)) (due_text (Order.Run cells calls) (Ok script.now)) (K.written sink.old) (K.written sink.new) result }
-    ensures statuses { (result ≡ due_status (Order.Run cells calls) (Ok script.now)) ⊎ (result ≡ 5) ⊎ (result ≡ 6) }
-    ensures sink_failed { result ≡ 5 → Rose (K.faults sink.old) (K.faults sink.new) }
+    ensures written { AnswersOne (due_status (Order.Run cells calls) (Ok script.now)) (IsAnswerTo (Order.Run cells calls) (Ok script.now)) (K.written sink.old) (K.written sink.new) (number result) }
+    ensures statuses { (number result ≡ due_status (Order.Run cells calls) (Ok script.now)) ⊎ (result ≡ Status.SinkFailed) ⊎ (result ≡ Status.Memory) }
+    ensures sink_failed { result ≡ Status.SinkFailed → Rose (K.faults sink.old) (K.faults sink.new) }
 {
     if !built(script) {
-        return write_text(b"! script NotYet\n", 3, sink);
+        return write_text(b"! script NotYet\n", Status::Refused, sink);
     }
     let needed = need(script);
     if cells < needed {
@@ -74,57 +76,57 @@ fn run_one_by_one<K: Sink, B: Micro>(
     stock: Stock<B>,
     calls: bool,
     sink: &mut K,
-) -> u8
+) -> Status
     requires in_range { IsInRange script.now }
     requires stock { 32 ≤ count_of stock Prog }
-    ensures written { Answers (due_status (Order.Serial calls) (Ok script.now)) (due_text (Order.Serial calls) (Ok script.now)) (K.written sink.old) (K.written sink.new) result }
-    ensures statuses { (result ≡ due_status (Order.Serial calls) (Ok script.now)) ⊎ (result ≡ 5) ⊎ (result ≡ 6) }
-    ensures sink_failed { result ≡ 5 → Rose (K.faults sink.old) (K.faults sink.new) }
+    ensures written { AnswersOne (due_status (Order.Serial calls) (Ok script.now)) (IsAnswerTo (Order.Serial calls) (Ok script.now)) (K.written sink.old) (K.written sink.new) (number result) }
+    ensures statuses { (number result ≡ due_status (Order.Serial calls) (Ok script.now)) ⊎ (result ≡ Status.SinkFailed) ⊎ (result ≡ Status.Memory) }
+    ensures sink_failed { result ≡ Status.SinkFailed → Rose (K.faults sink.old) (K.faults sink.new) }
 {
     if !built(script) {
-        return write_text(b"! script NotYet\n", 3, sink);
+        return write_text(b"! script NotYet\n", Status::Refused, sink);
     }
     status_of(run_script(alloc, script, stock, CELLS, true, calls, sink))
 }
 
 /// The status of what was written.
-fn status_of<B: Micro>(written: Result<Core<B>, Stop>) -> u8
-    ensures { result ≡ ended_with written }
+fn status_of<B: Micro>(written: Result<Core<B>, Stop>) -> Status
+    ensures { number result ≡ ended_with written }
 {
     match written {
-        Ok(_) => 0,
-        Err(Stop::Failed) => 5,
-        Err(Stop::Memory) => 6,
+        Ok(_) => Status::Done,
+        Err(Stop::Failed) => Status::SinkFailed,
+        Err(Stop::Memory) => Status::Memory,
     }
 }
 
 /// Writes the line of cells that aren't enough, and answers the status.
-fn refuse_cells<K: Sink>(alloc: Global, cells: u32, needed: u32, sink: &mut K) -> u8
-    ensures written { Answers 3 (few_cells cells needed) (K.written sink.old) (K.written sink.new) result }
-    ensures statuses { (result ≡ 3) ⊎ (result ≡ 5) ⊎ (result ≡ 6) }
-    ensures sink_failed { result ≡ 5 → Rose (K.faults sink.old) (K.faults sink.new) }
+fn refuse_cells<K: Sink>(alloc: Global, cells: u32, needed: u32, sink: &mut K) -> Status
+    ensures written { Answers (number Status.Refused) (few_cells cells needed) (K.written sink.old) (K.written sink.new) (number result) }
+    ensures statuses { (result ≡ Status.Refused) ⊎ (result ≡ Status.SinkFailed) ⊎ (result ≡ Status.Memory) }
+    ensures sink_failed { result ≡ Status.SinkFailed → Rose (K.faults sink.old) (K.faults sink.new) }
 {
     match cells_line(alloc, cells, needed) {
-        Ok(line) => write_text(&line, 3, sink),
-        Err(NoMemory) => 6,
+        Ok(line) => write_text(&line, Status::Refused, sink),
+        Err(NoMemory) => Status::Memory,
     }
 }
 
 /// Writes the canonical text of a script, and a line feed.
-fn write_canonical<K: Sink>(alloc: Global, script: &Script, sink: &mut K) -> u8
-    ensures written { Answers 0 (output Order.Check script.now) (K.written sink.old) (K.written sink.new) result }
-    ensures statuses { (result ≡ 0) ⊎ (result ≡ 5) ⊎ (result ≡ 6) }
-    ensures sink_failed { result ≡ 5 → Rose (K.faults sink.old) (K.faults sink.new) }
+fn write_canonical<K: Sink>(alloc: Global, script: &Script, sink: &mut K) -> Status
+    ensures written { Answers (number Status.Done) (canonical_text script.now) (K.written sink.old) (K.written sink.new) (number result) }
+    ensures statuses { (result ≡ Status.Done) ⊎ (result ≡ Status.SinkFailed) ⊎ (result ≡ Status.Memory) }
+    ensures sink_failed { result ≡ Status.SinkFailed → Rose (K.faults sink.old) (K.faults sink.new) }
 {
     match canonical(alloc, script) {
-        Ok(text) => write_text(&text, 0, sink),
-        Err(NoMemory) => 6,
+        Ok(text) => write_text(&text, Status::Done, sink),
+        Err(NoMemory) => Status::Memory,
     }
 }
 
 /// The canonical text of a script, and a line feed.
 fn canonical(alloc: Global, script: &Script) -> Result<Vec<u8>, NoMemory>
-    ensures { IfOk result (λ text. text.items ≡ output Order.Check script.now) }
+    ensures { IfOk result (λ text. text.items ≡ canonical_text script.now) }
 {
     let mut text = print_script(alloc, script)?;
     text.push(b'\n')?;
@@ -132,26 +134,26 @@ fn canonical(alloc: Global, script: &Script) -> Result<Vec<u8>, NoMemory>
 }
 
 /// Writes the line of a script's fault, and answers the status.
-pub fn refuse<K: Sink>(alloc: Global, fault: &ScriptFault, sink: &mut K) -> u8
-    ensures written { Answers 3 (line_of fault.now) (K.written sink.old) (K.written sink.new) result }
-    ensures statuses { (result ≡ 3) ⊎ (result ≡ 5) ⊎ (result ≡ 6) }
-    ensures sink_failed { result ≡ 5 → Rose (K.faults sink.old) (K.faults sink.new) }
+pub fn refuse<K: Sink>(alloc: Global, fault: &ScriptFault, sink: &mut K) -> Status
+    ensures written { Answers (number Status.Refused) (line_of fault.now) (K.written sink.old) (K.written sink.new) (number result) }
+    ensures statuses { (result ≡ Status.Refused) ⊎ (result ≡ Status.SinkFailed) ⊎ (result ≡ Status.Memory) }
+    ensures sink_failed { result ≡ Status.SinkFailed → Rose (K.faults sink.old) (K.faults sink.new) }
 {
     match fault_line(alloc, fault) {
-        Ok(line) => write_text(&line, 3, sink),
-        Err(NoMemory) => 6,
+        Ok(line) => write_text(&line, Status::Refused, sink),
+        Err(NoMemory) => Status::Memory,
     }
 }
 
 /// Writes a text, and answers its status, or 5.
-pub fn write_text<K: Sink>(text: &[u8], status: u8, sink: &mut K) -> u8
-    requires { status < 4 }
-    ensures written { Answers status text.now (K.written sink.old) (K.written sink.new) result }
-    ensures statuses { (result ≡ status) ⊎ (result ≡ 5) }
-    ensures sink_failed { result ≡ 5 → Rose (K.faults sink.old) (K.faults sink.new) }
+pub fn write_text<K: Sink>(text: &[u8], status: Status, sink: &mut K) -> Status
+    requires { number status < 4 }
+    ensures written { Answers (number status) text.now (K.written sink.old) (K.written sink.new) (number result) }
+    ensures statuses { (result ≡ status) ⊎ (result ≡ Status.SinkFailed) }
+    ensures sink_failed { result ≡ Status.SinkFailed → Rose (K.faults sink.old) (K.faults sink.new) }
 {
     match write_lines(text, sink) {
         Ok(()) => status,
-        Err(Failed) => 5,
+        Err(Failed) => Status::SinkFailed,
     }
 }

@@ -10,6 +10,7 @@ mod ready;
 mod report;
 mod running;
 mod schedule;
+mod status;
 mod stop;
 mod text;
 mod top;

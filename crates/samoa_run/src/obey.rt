@@ -7,11 +7,13 @@ ghost use Rattle.samoa_ends.specs.Causes.{Rose};
 ghost use Rattle.samoa_script.specs.declared.fault.ScriptFault.{ScriptFault as Fault};
 ghost use Rattle.samoa_run.specs.Readings.{IsReading};
 ghost use Rattle.samoa_micro.specs.Covers.{count_of};
-ghost use Rattle.samoa_run.specs.Due.{due_status, due_text, is_memory as memory_is};
-ghost use Rattle.samoa_run.specs.Serving.{Answers, Obeys};
+ghost use Rattle.samoa_run.specs.Due.{IsAnswerTo, due_status, is_memory as memory_is};
+ghost use Rattle.samoa_run.specs.Serving.{AnswersOne, IsDueOrFailed, Obeys};
+ghost use Rattle.samoa_run.specs.Statuses.{number};
 
 use crate::answer::{refuse, treat};
 use crate::reading::{LIMIT, read_input};
+use crate::status::Status;
 use crate::stop::Stop;
 use crate::words::Order;
 use samoa_ends::{Sink, Source};
@@ -26,11 +28,11 @@ pub fn obey<S: Source, K: Sink, B: Micro>(
     source: &mut S,
     sink: &mut K,
     stock: Stock<B>,
-) -> u8
+) -> Status
     requires { 32 ≤ count_of stock Prog }
     ensures { Obeys order
         (record { left = S.left source.old; left_after = S.left source.new; source_faults = S.faults source.old; source_faults_after = S.faults source.new; written = K.written sink.old; written_after = K.written sink.new; sink_faults = K.faults sink.old; sink_faults_after = K.faults sink.new })
-        result }
+        (number result) }
 {
     carry_out(alloc, order, source, sink, stock)
 }
@@ -42,29 +44,29 @@ fn carry_out<S: Source, K: Sink, B: Micro>(
     source: &mut S,
     sink: &mut K,
     stock: Stock<B>,
-) -> u8
+) -> Status
     requires { 32 ≤ count_of stock Prog }
     ensures written { (input : List ℕ) (found : Result ScriptValue Fault) → S.left source.old ≡ Some input → IsReading input found
-        → Answers (due_status order found) (due_text order found) (K.written sink.old) (K.written sink.new) result }
+        → AnswersOne (due_status order found) (IsAnswerTo order found) (K.written sink.old) (K.written sink.new) (number result) }
     ensures complete { (input : List ℕ) (found : Result ScriptValue Fault) → S.left source.old ≡ Some input → IsReading input found
-        → (result ≡ due_status order found) ⊎ (result ≡ 4) ⊎ (result ≡ 5) ⊎ (result ≡ 6) }
-    ensures refused_only { (input : List ℕ) → S.left source.old ≡ Some input → result ≡ 3
-        → (found : Result ScriptValue Fault) × (IsReading input found × (due_status order found ≡ 3)) }
-    ensures read { result ≡ 0 → IsAtEnd (S.left source.new) }
-    ensures refused_read { (input : List ℕ) → S.left source.old ≡ Some input → length input ≤ LIMIT → result ≡ 3
+        → IsDueOrFailed (due_status order found) (number result) }
+    ensures refused_only { (input : List ℕ) → S.left source.old ≡ Some input → result ≡ Status.Refused
+        → (found : Result ScriptValue Fault) × (IsReading input found × (due_status order found ≡ number Status.Refused)) }
+    ensures read { result ≡ Status.Done → IsAtEnd (S.left source.new) }
+    ensures refused_read { (input : List ℕ) → S.left source.old ≡ Some input → length input ≤ LIMIT → result ≡ Status.Refused
         → IsAtEnd (S.left source.new) }
-    ensures source_failed { result ≡ 4 → Rose (S.faults source.old) (S.faults source.new) }
-    ensures sink_failed { result ≡ 5 → Rose (K.faults sink.old) (K.faults sink.new) }
-    ensures statuses { (result ≡ 0) ⊎ (result ≡ 3) ⊎ (result ≡ 4) ⊎ (result ≡ 5) ⊎ (result ≡ 6) }
+    ensures source_failed { result ≡ Status.SourceFailed → Rose (S.faults source.old) (S.faults source.new) }
+    ensures sink_failed { result ≡ Status.SinkFailed → Rose (K.faults sink.old) (K.faults sink.new) }
+    ensures statuses { (number result ≡ number Status.Done) ⊎ IsDueOrFailed (number Status.Refused) (number result) }
 {
     let bytes = match read_input(alloc, source) {
         Ok(bytes) => bytes,
-        Err(Stop::Failed) => return 4,
-        Err(Stop::Memory) => return 6,
+        Err(Stop::Failed) => return Status::SourceFailed,
+        Err(Stop::Memory) => return Status::Memory,
     };
     match read_script(alloc, &bytes) {
         Ok(script) => treat(alloc, order, &script, stock, sink),
-        Err(fault) if is_memory(&fault) => 6,
+        Err(fault) if is_memory(&fault) => Status::Memory,
         Err(fault) => refuse(alloc, &fault, sink),
     }
 }

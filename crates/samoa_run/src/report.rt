@@ -3,7 +3,7 @@ ghost use Rattle.std.specs.Prelude.{◌≡◌, ◌<◌, ◌≤◌, ◌+◌, ◌+
 ghost use Rattle.std.specs.Io.KnownBytes.{Appends};
 ghost use Rattle.samoa_model.specs.Cells.{need};
 ghost use Rattle.samoa_model.specs.Range.{IsInRange, IsBuilt, IsExtOf};
-ghost use Rattle.samoa_serial.specs.History.{ext_of, history};
+ghost use Rattle.samoa_serial.specs.History.{ext_of as as_ext, history};
 ghost use Rattle.samoa_serial.specs.Report.{report};
 ghost use Rattle.samoa_ends.specs.Pieces.{AppendsPrefix};
 ghost use Rattle.samoa_micro.specs.Covers.{Covers};
@@ -20,7 +20,7 @@ use crate::writing::write_lines;
 use samoa_core::Core;
 use samoa_ends::Sink;
 use samoa_micro::{Micro, Stock};
-use samoa_model::{DoDef, NoMemory, Script};
+use samoa_model::{Ext, NoMemory, Script};
 use samoa_report::total_line;
 use std::alloc::Global;
 
@@ -63,7 +63,7 @@ impl<B: Micro> Run<B> {
         })
     }
 
-    /// Of so many items, how many may run together: all, or one.
+    /// Of so many, how many may run together: all, or one.
     fn most(&self, items: usize) -> usize
         requires { 0 < items }
         ensures some { 0 < result }
@@ -73,27 +73,27 @@ impl<B: Micro> Run<B> {
         if self.one_by_one { 1 } else { items }
     }
 
-    /// Runs the first of these items, as many as have room together, and makes their part of the report the text at
+    /// Runs the first of these, as many as have room together, and makes their part of the report the text at
     /// hand. Answers how many: at least one. Where there was no memory, the run is of no further use.
     fn compute(
         &mut self,
         alloc: Global,
         script: &Script,
         calls: bool,
-        items: &[DoDef],
+        exts: &[Ext],
     ) -> Result<usize, NoMemory>
         requires in_range { IsInRange script.now }
-        requires some { 0 < length items.now }
-        requires named { All (IsExtOf script.now) (map ext_of items.now) }
-        requires few { length self.old.core.exts + length items.now ≤ 100000 }
+        requires some { 0 < length exts.now }
+        requires named { All (IsExtOf script.now) exts.now }
+        requires few { length self.old.core.exts + length exts.now ≤ 100000 }
         requires has_run { HasRun script.now self.old.core.exts self.old.core self.old.totals }
         ensures some { IfOk result (λ count. 0 < count) }
-        ensures within { IfOk result (λ count. count ≤ length items.now) }
-        ensures text { IfOk result (λ count. self.new.text.items ≡ later_text script.now calls self.old.core.exts (take count (map ext_of items.now))) }
-        ensures has_run { IfOk result (λ count. HasRun script.now (self.old.core.exts ++ take count (map ext_of items.now)) self.new.core self.new.totals) }
+        ensures within { IfOk result (λ count. count ≤ length exts.now) }
+        ensures text { IfOk result (λ count. self.new.text.items ≡ later_text script.now calls self.old.core.exts (take count exts.now)) }
+        ensures has_run { IfOk result (λ count. HasRun script.now (self.old.core.exts ++ take count exts.now) self.new.core self.new.totals) }
     {
-        let most = self.most(items.len());
-        let count = admit_part(alloc, &mut self.core, items, most)?;
+        let most = self.most(exts.len());
+        let count = admit_part(alloc, &mut self.core, exts, most)?;
         run_to_end(alloc, &mut self.core)?;
         self.text.clear();
         push_comps(script, &self.core, calls, &mut self.text, &mut self.totals)?;
@@ -102,52 +102,52 @@ impl<B: Micro> Run<B> {
         Ok(count)
     }
 
-    /// Runs the first of these items, as many as have room together, and writes their part of the report. Answers how
+    /// Runs the first of these, as many as have room together, and writes their part of the report. Answers how
     /// many: at least one.
     fn write_part<K: Sink>(
         &mut self,
         alloc: Global,
         script: &Script,
         calls: bool,
-        items: &[DoDef],
+        exts: &[Ext],
         sink: &mut K,
     ) -> Result<usize, Stop>
         requires in_range { IsInRange script.now }
-        requires some { 0 < length items.now }
-        requires named { All (IsExtOf script.now) (map ext_of items.now) }
-        requires few { length self.old.core.exts + length items.now ≤ 100000 }
+        requires some { 0 < length exts.now }
+        requires named { All (IsExtOf script.now) exts.now }
+        requires few { length self.old.core.exts + length exts.now ≤ 100000 }
         requires has_run { HasRun script.now self.old.core.exts self.old.core self.old.totals }
         ensures some { IfOk result (λ count. 0 < count) }
-        ensures within { IfOk result (λ count. count ≤ length items.now) }
-        ensures all { IfOk result (λ count. Appends (K.written sink.old) (K.written sink.new) (later_text script.now calls self.old.core.exts (take count (map ext_of items.now)))) }
-        ensures part { OnErr result (AppendsPrefix (K.written sink.old) (K.written sink.new) (later_text script.now calls self.old.core.exts (map ext_of items.now))) }
+        ensures within { IfOk result (λ count. count ≤ length exts.now) }
+        ensures all { IfOk result (λ count. Appends (K.written sink.old) (K.written sink.new) (later_text script.now calls self.old.core.exts (take count exts.now))) }
+        ensures part { OnErr result (AppendsPrefix (K.written sink.old) (K.written sink.new) (later_text script.now calls self.old.core.exts exts.now)) }
         ensures cause { StopsFor (K.faults sink.old) (K.faults sink.new) result }
-        ensures has_run { IfOk result (λ count. HasRun script.now (self.old.core.exts ++ take count (map ext_of items.now)) self.new.core self.new.totals) }
+        ensures has_run { IfOk result (λ count. HasRun script.now (self.old.core.exts ++ take count exts.now) self.new.core self.new.totals) }
     {
-        let count = self.compute(alloc, script, calls, items)?;
+        let count = self.compute(alloc, script, calls, exts)?;
         write_lines(&self.text, sink)?;
         Ok(count)
     }
 
-    /// Runs the computations of these items, part by part, and writes their part of the report.
+    /// Runs the computations of these, part by part, and writes their part of the report.
     fn write_batch<K: Sink>(
         &mut self,
         alloc: Global,
         script: &Script,
         calls: bool,
-        items: &[DoDef],
+        exts: &[Ext],
         sink: &mut K,
     ) -> Result<(), Stop>
         requires in_range { IsInRange script.now }
-        requires named { All (IsExtOf script.now) (map ext_of items.now) }
-        requires few { length self.old.core.exts + length items.now ≤ 100000 }
+        requires named { All (IsExtOf script.now) exts.now }
+        requires few { length self.old.core.exts + length exts.now ≤ 100000 }
         requires has_run { HasRun script.now self.old.core.exts self.old.core self.old.totals }
-        ensures all { OnOk result (Appends (K.written sink.old) (K.written sink.new) (later_text script.now calls self.old.core.exts (map ext_of items.now))) }
-        ensures part { OnErr result (AppendsPrefix (K.written sink.old) (K.written sink.new) (later_text script.now calls self.old.core.exts (map ext_of items.now))) }
+        ensures all { OnOk result (Appends (K.written sink.old) (K.written sink.new) (later_text script.now calls self.old.core.exts exts.now)) }
+        ensures part { OnErr result (AppendsPrefix (K.written sink.old) (K.written sink.new) (later_text script.now calls self.old.core.exts exts.now)) }
         ensures cause { StopsFor (K.faults sink.old) (K.faults sink.new) result }
-        ensures has_run { OnOk result (HasRun script.now (self.old.core.exts ++ map ext_of items.now) self.new.core self.new.totals) }
+        ensures has_run { OnOk result (HasRun script.now (self.old.core.exts ++ exts.now) self.new.core self.new.totals) }
     {
-        let mut rest = items;
+        let mut rest = exts;
         while !rest.is_empty() {
             let count = self.write_part(alloc, script, calls, rest, sink)?;
             let (_, later) = rest.split_at(count);
@@ -156,24 +156,24 @@ impl<B: Micro> Run<B> {
         Ok(())
     }
 
-    /// Runs all that the script admits, tick by tick, and writes its part of the report. The items are the script's.
+    /// Runs all that the script admits, tick by tick, and writes its part of the report. They are the script's items.
     fn write_history<K: Sink>(
         &mut self,
         alloc: Global,
         script: &Script,
         calls: bool,
-        items: &[DoDef],
+        exts: &[Ext],
         sink: &mut K,
     ) -> Result<(), Stop>
         requires in_range { IsInRange script.now }
-        requires by_tick { IsByTick script.now.does items.now }
+        requires by_tick { IsByTick (map as_ext script.now.does) exts.now }
         requires has_run { HasRun script.now [] self.old.core self.old.totals }
         ensures all { OnOk result (Appends (K.written sink.old) (K.written sink.new) (later_text script.now calls [] (history script.now))) }
         ensures part { OnErr result (AppendsPrefix (K.written sink.old) (K.written sink.new) (later_text script.now calls [] (history script.now))) }
         ensures cause { StopsFor (K.faults sink.old) (K.faults sink.new) result }
         ensures has_run { OnOk result (HasRun script.now (history script.now) self.new.core self.new.totals) }
     {
-        let mut rest = items;
+        let mut rest = exts;
         for before in 0..script.ticks {
             let (batch, later) = rest.split_at(count_of_tick(rest, before + 1));
             self.write_batch(alloc, script, calls, batch, sink)?;
@@ -217,8 +217,8 @@ impl<B: Micro> Run<B> {
         ensures part { OnErr result (AppendsPrefix (K.written sink.old) (K.written sink.new) (report script.now calls)) }
         ensures cause { StopsFor (K.faults sink.old) (K.faults sink.new) result }
     {
-        let items = by_tick(alloc, script)?;
-        self.write_history(alloc, script, calls, &items, sink)?;
+        let exts = by_tick(alloc, script)?;
+        self.write_history(alloc, script, calls, &exts, sink)?;
         self.write_end(script, sink)
     }
 }

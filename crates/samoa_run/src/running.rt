@@ -1,66 +1,65 @@
 //! A part of a tick: what is admitted together is run to its end.
-ghost use Rattle.std.specs.Prelude.{◌≡◌, ◌+◌, ◌<◌, ◌≤◌, ◌∷◌, [], length, map, take, slice_get, Some, All, IfOk, IfSome, IfNone, OnOk};
+ghost use Rattle.std.specs.Prelude.{◌≡◌, ◌+◌, ◌<◌, ◌≤◌, ◌∷◌, [], length, take, slice_get, Some, All, IfOk, IfSome, IfNone, OnOk};
 ghost use Rattle.samoa_model.specs.declared.record.Ext.{Ext};
 ghost use Rattle.samoa_model.specs.Cells.{cells_of, need};
 ghost use Rattle.samoa_model.specs.Range.{IsExtOf};
-ghost use Rattle.samoa_serial.specs.History.{ext_of as as_ext};
 ghost use Rattle.samoa_invariant.specs.State.{AllEnded, NothingOut};
 ghost use Rattle.samoa_invariant.specs.Runs.{state};
-ghost use Rattle.samoa_core.specs.Scans.{IsLater};
+ghost use Rattle.samoa_core.specs.Later.{IsLater};
 ghost use Rattle.samoa_core.specs.Since.{cleared_comps};
 ghost use Rattle.samoa_run.specs.Running.{HasOpened};
 
 use samoa_core::Core;
 use samoa_micro::Micro;
-use samoa_model::{DoDef, Ext, NoMemory};
+use samoa_model::{Ext, NoMemory};
 use samoa_workers::{Batch, drain};
 use std::alloc::Global;
 
-/// Admits the first of these items, as many as have room together, and at most so many. Answers how many: at least
+/// Admits the first of these, as many as have room together, and at most so many. Answers how many: at least
 /// one, since the core holds no cells. Where there was no memory, some may be admitted.
 pub fn admit_part<B: Micro>(
     alloc: Global,
     core: &mut Core<B>,
-    items: &[DoDef],
+    exts: &[Ext],
     most: usize,
 ) -> Result<usize, NoMemory>
     requires some { 0 < most }
-    requires within { most ≤ length items.now }
-    requires named { All (IsExtOf core.old.script) (map as_ext items.now) }
-    requires few { length core.old.exts + length items.now ≤ 100000 }
+    requires within { most ≤ length exts.now }
+    requires named { All (IsExtOf core.old.script) exts.now }
+    requires few { length core.old.exts + length exts.now ≤ 100000 }
     requires none_held { (state core.old).cells ≡ 0 }
     requires room { need core.old.script ≤ core.old.cells }
     ensures some { IfOk result (λ count. 0 < count) }
     ensures most { IfOk result (λ count. count ≤ most) }
-    ensures opened { IfOk result (λ count. HasOpened core.old (take count (map as_ext items.now)) core.new) }
+    ensures opened { IfOk result (λ count. HasOpened core.old (take count exts.now) core.new) }
     ensures held { OnOk result (0 < (state core.new).cells) }
-    ensures longest { IfOk result (λ count. (ext : Ext) → count < most → slice_get (map as_ext items.now) count ≡ Some ext
+    ensures longest { IfOk result (λ count. (ext : Ext) → count < most → slice_get exts.now count ≡ Some ext
         → core.new.cells < (state core.new).cells + cells_of core.new.script ext) }
 {
     let mut count = 0;
-    while let Some(ext) = next_fitting(core, items, count, most) {
+    while let Some(ext) = next_fitting(core, exts, count, most) {
         admit(alloc, core, ext)?;
         count += 1;
     }
     Ok(count)
 }
 
-/// The item at this place as an admission, where it is among so many and has room beside what is open.
-fn next_fitting<B: Micro>(core: &Core<B>, items: &[DoDef], at: usize, most: usize) -> Option<Ext>
+/// The admission at this place, where it is among so many and has room beside what is open.
+fn next_fitting<B: Micro>(core: &Core<B>, exts: &[Ext], at: usize, most: usize) -> Option<Ext>
     requires at { at ≤ most }
-    requires within { most ≤ length items.now }
-    requires named { All (IsExtOf core.now.script) (map as_ext items.now) }
+    requires within { most ≤ length exts.now }
+    requires named { All (IsExtOf core.now.script) exts.now }
     ensures more { IfSome result (λ ext. at < most) }
-    ensures item { IfSome result (λ ext. slice_get (map as_ext items.now) at ≡ Some ext) }
+    ensures item { IfSome result (λ ext. slice_get exts.now at ≡ Some ext) }
     ensures named { IfSome result (λ ext. IsExtOf core.now.script ext) }
     ensures fits { IfSome result (λ ext. (state core.now).cells + cells_of core.now.script ext ≤ core.now.cells) }
-    ensures none { IfNone result ((ext : Ext) → at < most → slice_get (map as_ext items.now) at ≡ Some ext
+    ensures none { IfNone result ((ext : Ext) → at < most → slice_get exts.now at ≡ Some ext
         → core.now.cells < (state core.now).cells + cells_of core.now.script ext) }
 {
     if at == most {
         return None;
     }
-    let ext = ext_of(&items[at]);
+    let ext = exts[at];
     if core.fits(&ext) { Some(ext) } else { None }
 }
 
@@ -93,17 +92,5 @@ pub fn run_to_end<B: Micro>(alloc: Global, core: &mut Core<B>) -> Result<(), NoM
     match drain(alloc, core) {
         Batch::Done => Ok(()),
         Batch::Memory => Err(NoMemory),
-    }
-}
-
-/// An item of the script's list as an admission.
-fn ext_of(item: &DoDef) -> Ext
-    ensures { result ≡ as_ext item.now }
-{
-    Ext {
-        node: item.node,
-        tick: item.tick,
-        cause: item.cause,
-        args: item.args,
     }
 }

@@ -11,11 +11,13 @@ ghost use Rattle.samoa_micro.specs.Covers.{count_of};
 ghost use Rattle.samoa_run.specs.declared.words.Order.{Order as OrderValue};
 ghost use Rattle.samoa_run.specs.Built.{is_built};
 ghost use Rattle.samoa_run.specs.Serving.{Answers, Obeys};
+ghost use Rattle.samoa_run.specs.Statuses.{number};
 ghost use Rattle.samoa_run.specs.Words.{order_in as order_of, check_only as only_check, serial_only as only_serial};
 
 use crate::answer::write_text;
 use crate::gate::Gate;
 use crate::obey::obey;
+use crate::status::Status;
 use crate::words::{Order, order_in};
 use samoa_ends::{Sink, Source};
 use samoa_micro::{Micro, Stock};
@@ -77,12 +79,8 @@ pub fn serve<R: Wait + Threads + Sync, S: Source, K: Sink, G: Gate + Sync, B: Mi
     ensures sink_failed { result ≡ 5 → Rose (K.faults sink.old) (K.faults sink.new) }
 {
     match order_in(words) {
-        Some(Order::Run { cells, calls }) => {
-            obey(alloc, Order::Run { cells, calls }, source, sink, stock)
-        }
-        Some(Order::Serial { .. }) => serve_serial(alloc, words, source, sink, stock),
-        Some(Order::Check) => check_only(alloc, words, source, sink, stock),
-        None => write_text(b"! usage\n", 2, sink),
+        Some(order) => obey(alloc, order, source, sink, stock).number(),
+        None => refuse_words(sink).number(),
     }
 }
 
@@ -115,9 +113,9 @@ pub fn serve_serial<S: Source, K: Sink, B: Micro>(
 {
     match order_in(words) {
         Some(Order::Serial { calls }) => {
-            obey(alloc, Order::Serial { calls }, source, sink, stock)
+            obey(alloc, Order::Serial { calls }, source, sink, stock).number()
         }
-        _ => write_text(b"! usage\n", 2, sink),
+        _ => refuse_words(sink).number(),
     }
 }
 
@@ -143,7 +141,16 @@ pub fn check_only<S: Source, K: Sink, B: Micro>(
     ensures sink_failed { result ≡ 5 → Rose (K.faults sink.old) (K.faults sink.new) }
 {
     match order_in(words) {
-        Some(Order::Check) => obey(alloc, Order::Check, source, sink, stock),
-        _ => write_text(b"! usage\n", 2, sink),
+        Some(Order::Check) => obey(alloc, Order::Check, source, sink, stock).number(),
+        _ => refuse_words(sink).number(),
     }
+}
+
+/// Writes the line of words that are others.
+fn refuse_words<K: Sink>(sink: &mut K) -> Status
+    ensures written { Answers (number Status.Usage) (codes "! usage\n") (K.written sink.old) (K.written sink.new) (number result) }
+    ensures statuses { (result ≡ Status.Usage) ⊎ (result ≡ Status.SinkFailed) }
+    ensures sink_failed { result ≡ Status.SinkFailed → Rose (K.faults sink.old) (K.faults sink.new) }
+{
+    write_text(b"! usage\n", Status::Usage, sink)
 }

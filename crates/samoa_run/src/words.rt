@@ -1,6 +1,6 @@
 //! The words of the command line.
-ghost use Rattle.std.specs.Prelude.{◌≡◌, ◌≤◌, map, string_bytes, bytes_eq, codes};
-ghost use Rattle.samoa_run.specs.Words.{order_in, run_in as run_of, calls_in as calls_of, cells_in as cells_of, when_alone as alone, number_in as number_of, number_from as number_after};
+ghost use Rattle.std.specs.Prelude.{◌≡◌, ◌≤◌, map, string_bytes, Some};
+ghost use Rattle.samoa_run.specs.Words.{order_in, run_with as run_of, serial_with as serial_of, when_alone as alone, options_in as options_of, options_from as options_after, with_word as after_word, with_option as after_option, with_number as after_number, unless_awaiting as unless_awaited, number_in as number_of, number_from as number_after};
 
 /// What the words ask for.
 #[derive(Clone, Copy, Debug, PartialEq, Eq)]
@@ -16,73 +16,145 @@ pub enum Order {
 /// How many cells there are where none are given.
 pub const CELLS: u32 = 65_536;
 
-const MOST_CELLS: u32 = 1_048_576;
+/// The most cells that can be given.
+pub const MOST_CELLS: u32 = 1_048_576;
+
+/// The options of a run, each as it is given.
+#[derive(Clone, Copy, Debug, PartialEq, Eq)]
+struct Options {
+    cells: Option<u32>,
+    calls: bool,
+}
+
+/// An option that has a number.
+#[derive(Clone, Copy, Debug, PartialEq, Eq)]
+enum Numbered {
+    Cells,
+}
+
+/// The options read so far, and the one whose number comes next.
+#[derive(Clone, Copy, Debug, PartialEq, Eq)]
+struct Taken {
+    options: Options,
+    awaits: Option<Numbered>,
+}
 
 /// The order that the words give, if they give one.
 pub fn order_in(words: &[String]) -> Option<Order>
     ensures { result ≡ order_in (map string_bytes words.now) }
 {
-    let (word, options) = words.split_first()?;
+    let (word, rest) = words.split_first()?;
     match word.as_str() {
-        "run" => run_in(options),
-        "serial" => {
-            let calls = calls_in(options)?;
-            Some(Order::Serial { calls })
+        "run" => {
+            let options = options_in(rest)?;
+            Some(run_with(options))
         }
-        "check" => when_alone(options),
+        "serial" => serial_with(options_in(rest)?),
+        "check" => when_alone(rest),
         _ => None,
     }
 }
 
-/// A run with these options, in any order, each at most once.
-fn run_in(options: &[String]) -> Option<Order>
-    ensures { result ≡ run_of (map string_bytes options.now) }
+fn run_with(options: Options) -> Order
+    ensures { result ≡ run_of options }
 {
-    match options {
-        [] => Some(Order::Run {
-            cells: CELLS,
-            calls: false,
+    Order::Run {
+        cells: options.cells.unwrap_or(CELLS),
+        calls: options.calls,
+    }
+}
+
+/// A serial run takes no cells.
+fn serial_with(options: Options) -> Option<Order>
+    ensures { result ≡ serial_of options }
+{
+    match options.cells {
+        None => Some(Order::Serial {
+            calls: options.calls,
         }),
-        [calls] if is_calls(calls) => Some(Order::Run {
-            cells: CELLS,
-            calls: true,
+        Some(_) => None,
+    }
+}
+
+/// The options of a run, in any order, each at most once.
+fn options_in(words: &[String]) -> Option<Options>
+    ensures { result ≡ options_of (map string_bytes words.now) }
+{
+    let options = Options {
+        cells: None,
+        calls: false,
+    };
+    let awaits = None;
+    options_from(Taken { options, awaits }, words)
+}
+
+/// The options that stand in the words, after those before them.
+fn options_from(taken: Taken, words: &[String]) -> Option<Options>
+    ensures { result ≡ options_after (Some taken) (map string_bytes words.now) }
+{
+    match words.split_first() {
+        Some((word, rest)) => options_from(with_word(taken, word)?, rest),
+        None => unless_awaiting(taken),
+    }
+}
+
+/// The options, unless the number of one is missing.
+fn unless_awaiting(taken: Taken) -> Option<Options>
+    ensures { result ≡ unless_awaited taken.options taken.awaits }
+{
+    match taken.awaits {
+        None => Some(taken.options),
+        Some(_) => None,
+    }
+}
+
+/// One word more: the number of the option that awaits one, else an option's word.
+fn with_word(taken: Taken, word: &String) -> Option<Taken>
+    ensures { result ≡ after_word taken (string_bytes word.now) }
+{
+    match taken.awaits {
+        None => with_option(taken.options, word),
+        Some(numbered) => {
+            let options = with_number(taken.options, numbered, word)?;
+            let awaits = None;
+            Some(Taken { options, awaits })
+        }
+    }
+}
+
+/// An option's word, which stood nowhere before.
+fn with_option(options: Options, word: &String) -> Option<Taken>
+    ensures { result ≡ after_option options (string_bytes word.now) }
+{
+    match word.as_str() {
+        "--calls" if !options.calls => Some(Taken {
+            options: Options {
+                calls: true,
+                ..options
+            },
+            awaits: None,
         }),
-        [word, number] if is_cells(word) => {
-            let cells = cells_in(number)?;
-            Some(Order::Run {
-                cells,
-                calls: false,
+        "--cells" if options.cells.is_none() => Some(Taken {
+            options,
+            awaits: Some(Numbered::Cells),
+        }),
+        _ => None,
+    }
+}
+
+/// The number of an option: from 1 to 1,048,576 cells.
+fn with_number(options: Options, numbered: Numbered, word: &String) -> Option<Options>
+    ensures { result ≡ after_number options numbered (string_bytes word.now) }
+{
+    match numbered {
+        Numbered::Cells => {
+            let cells = number_in(word.as_str().as_bytes())?;
+            Some(Options {
+                cells: Some(cells),
+                ..options
             })
         }
-        [calls, word, number] if is_calls(calls) && is_cells(word) => {
-            let cells = cells_in(number)?;
-            Some(Order::Run { cells, calls: true })
-        }
-        [word, number, calls] if is_cells(word) && is_calls(calls) => {
-            let cells = cells_in(number)?;
-            Some(Order::Run { cells, calls: true })
-        }
-        _ => None,
     }
-}
-
-fn is_calls(word: &String) -> bool
-    ensures { result ≡ bytes_eq (string_bytes word.now) (codes "--calls") }
-{
-    word.as_str() == "--calls"
-}
-
-fn is_cells(word: &String) -> bool
-    ensures { result ≡ bytes_eq (string_bytes word.now) (codes "--cells") }
-{
-    word.as_str() == "--cells"
-}
-
-/// How many cells, from 1 to 1,048,576.
-fn cells_in(word: &String) -> Option<u32>
-    ensures { result ≡ cells_of (string_bytes word.now) }
-{
-    number_in(word.as_str().as_bytes())
 }
 
 /// A number of cells in plain digits without a leading zero.
@@ -111,17 +183,6 @@ fn number_from(before: u32, digits: &[u8]) -> Option<u32>
         return None;
     }
     number_from(number, rest)
-}
-
-/// Whether the lines of calls are asked for, if these are the options of a serial run.
-fn calls_in(options: &[String]) -> Option<bool>
-    ensures { result ≡ calls_of (map string_bytes options.now) }
-{
-    match options {
-        [] => Some(false),
-        [option] => (option.as_str() == "--calls").then_some(true),
-        _ => None,
-    }
 }
 
 /// The order without options.

@@ -2,46 +2,48 @@ use Rattle.std.proofs.Common.{◌≡◌, ◌⊎◌, Result, Ok, Err, refl, sym, 
 use Rattle.samoa_model.specs.declared.script.Script.{Script}
 use Rattle.samoa_script.specs.declared.fault.ScriptFault.{ScriptFault}
 use Rattle.samoa_run.specs.Readings.{IsFaultOf}
-use Rattle.samoa_run.specs.Due.{due_status, due_text}
-use Rattle.samoa_run.specs.Serving.{Answers}
-use Rattle.samoa_run.proofs.Served.{same_reading, reading_of_input, later_status, due_three, not_memory}
+use Rattle.samoa_run.specs.declared.status.Status.TheVariants.{SinkFailed, Memory}
+use Rattle.samoa_run.specs.Statuses.{number}
+use Rattle.samoa_run.specs.Due.{IsAnswerTo, due_status, fault_line}
+use Rattle.samoa_run.specs.Serving.{AnswersOne, IsDueOrFailed}
+use Rattle.samoa_run.proofs.Served.{same_reading, reading_of_input, later_status, refused_status, due_refused, not_memory, one_of}
 use Rattle.samoa_run.proofs.obey.carry_out.Goals as goal
 
 pub returns-in-Ok-read_script-clause-written : goal.returns-in-Ok-read_script-clause-written
 returns-in-Ok-read_script-clause-written g c =
     λ input found left reading.
     let same = same_reading _ _ input c.in-Ok.bytes.items c.deref.result.now (Ok c.in-Ok-read_script.script) found left c.in-Ok.ensures.read c.in-Ok.ensures.whole c.deref.ensures.value c.in-Ok-read_script.ensures.ok reading in
-    let P : Result Script ScriptFault → Type 0 = λ r. Answers (due_status c.args.order r) (due_text c.args.order r) (g.K.Sink.written c.args.sink.now) (g.K.Sink.written c.treat.new.sink) c.treat.result in
+    let P : Result Script ScriptFault → Type 0 = λ r. AnswersOne (due_status c.args.order r) (IsAnswerTo c.args.order r) (g.K.Sink.written c.args.sink.now) (g.K.Sink.written c.treat.new.sink) (number c.treat.result) in
     subst P (sym same) c.treat.ensures.written
 
 pub returns-in-Ok-read_script-clause-complete : goal.returns-in-Ok-read_script-clause-complete
 returns-in-Ok-read_script-clause-complete g c =
     λ input found left reading.
     let same = same_reading _ _ input c.in-Ok.bytes.items c.deref.result.now (Ok c.in-Ok-read_script.script) found left c.in-Ok.ensures.read c.in-Ok.ensures.whole c.deref.ensures.value c.in-Ok-read_script.ensures.ok reading in
-    let P : Result Script ScriptFault → Type 0 = λ r. (c.treat.result ≡ due_status c.args.order r) ⊎ ((c.treat.result ≡ 5) ⊎ (c.treat.result ≡ 6)) in
+    let P : Result Script ScriptFault → Type 0 = λ r. (number c.treat.result ≡ due_status c.args.order r) ⊎ ((c.treat.result ≡ SinkFailed) ⊎ (c.treat.result ≡ Memory)) in
     later_status _ _ (subst P (sym same) c.treat.ensures.statuses)
 
 pub returns-in-Ok-read_script-clause-refused_only : goal.returns-in-Ok-read_script-clause-refused_only
 returns-in-Ok-read_script-clause-refused_only g c =
-    λ input left three.
+    λ input left refused.
     let here = reading_of_input _ _ input c.in-Ok.bytes.items c.deref.result.now (Ok c.in-Ok-read_script.script) left c.in-Ok.ensures.read c.in-Ok.ensures.whole c.deref.ensures.value c.in-Ok-read_script.ensures.ok in
-    (Ok c.in-Ok-read_script.script, (here, due_three _ _ three c.treat.ensures.statuses))
+    (Ok c.in-Ok-read_script.script, (here, due_refused _ _ refused c.treat.ensures.statuses))
 
 pub returns-clause-written : goal.returns-clause-written
 returns-clause-written g c =
     λ input found left reading.
     let fails : IsFaultOf c.deref.result.now c.in-Err.fault = (c.in-Err.ensures.fault, not_memory c.in-Err.fault (cc)) in
     let same = same_reading _ _ input c.in-Ok.bytes.items c.deref.result.now (Err c.in-Err.fault) found left c.in-Ok.ensures.read c.in-Ok.ensures.whole c.deref.ensures.value fails reading in
-    let P : Result Script ScriptFault → Type 0 = λ r. Answers (due_status c.args.order r) (due_text c.args.order r) (g.K.Sink.written c.args.sink.now) (g.K.Sink.written c.refuse.new.sink) c.refuse.result in
-    subst P (sym same) c.refuse.ensures.written
+    let P : Result Script ScriptFault → Type 0 = λ r. AnswersOne (due_status c.args.order r) (IsAnswerTo c.args.order r) (g.K.Sink.written c.args.sink.now) (g.K.Sink.written c.refuse.new.sink) (number c.refuse.result) in
+    subst P (sym same) (one_of (fault_line c.in-Err.fault) refl c.refuse.ensures.written)
 
 pub returns-clause-complete : goal.returns-clause-complete
 returns-clause-complete g c =
     λ input found left reading.
     let fails : IsFaultOf c.deref.result.now c.in-Err.fault = (c.in-Err.ensures.fault, not_memory c.in-Err.fault (cc)) in
     let same = same_reading _ _ input c.in-Ok.bytes.items c.deref.result.now (Err c.in-Err.fault) found left c.in-Ok.ensures.read c.in-Ok.ensures.whole c.deref.ensures.value fails reading in
-    let P : Result Script ScriptFault → Type 0 = λ r. (c.refuse.result ≡ due_status c.args.order r) ⊎ ((c.refuse.result ≡ 5) ⊎ (c.refuse.result ≡ 6)) in
-    later_status _ _ (subst P (sym same) c.refuse.ensures.statuses)
+    let P : Result Script ScriptFault → Type 0 = λ r. IsDueOrFailed (due_status c.args.order r) (number c.refuse.result) in
+    subst P (sym same) (refused_status c.refuse.result c.refuse.ensures.statuses)
 
 pub returns-clause-refused_only : goal.returns-clause-refused_only
 returns-clause-refused_only g c =

@@ -1,7 +1,5 @@
-use Rattle.std.proofs.Common.{◌∷◌, [], ◌≤◌, List, arith, length, map, subst, sym, take}
-use Rattle.std.proofs.lemmas.List.{length-map}
+use Rattle.std.proofs.Common.{◌∷◌, [], ◌≤◌, List, arith, length, subst, sym, take}
 use Rattle.samoa_model.specs.declared.record.Ext.{Ext}
-use Rattle.samoa_serial.specs.History.{ext_of}
 use Rattle.samoa_run.specs.Running.{HasOpened}
 use Rattle.samoa_run.proofs.EntrySteps.{take_one_more}
 use Rattle.samoa_run.proofs.Opened.{opened_more, some_opened}
@@ -9,7 +7,7 @@ use Rattle.samoa_run.proofs.running.admit_part.Goals as goal
 
 pub loop-ext-preserved : goal.loop-ext-preserved
 loop-ext-preserved g c =
-    let exts : List Ext = map ext_of c.args.items.now in
+    let exts : List Ext = c.args.exts.now in
     let H : List Ext → Type 0 = λ l. HasOpened c.args.core.now l c.admit.new.core in
     record {
       most = omega (arith, c.in-Some.ensures.more);
@@ -21,12 +19,12 @@ loop-ext-preserved g c =
 
 pub returns-clause-some : goal.returns-clause-some
 returns-clause-some g c =
-    let exts : List Ext = map ext_of c.args.items.now in
-    let within : c.args.most ≤ length exts = omega (arith, c.requires.within, length-map c.args.items.now ext_of) in
+    let exts : List Ext = c.args.exts.now in
+    let within : c.args.most ≤ length exts = c.requires.within in
     some_opened c.args.core.now c.loop-ext.core exts c.loop-ext.count c.args.most c.requires.some within c.requires.room c.loop-ext.invariant.opened c.loop-ext.invariant.none_held c.in_default.ensures.none
 
 pub returns-clause-held : goal.returns-clause-held
 returns-clause-held g c =
-    let exts : List Ext = map ext_of c.args.items.now in
-    let within : c.args.most ≤ length exts = omega (arith, c.requires.within, length-map c.args.items.now ext_of) in
+    let exts : List Ext = c.args.exts.now in
+    let within : c.args.most ≤ length exts = c.requires.within in
     c.loop-ext.invariant.held (some_opened c.args.core.now c.loop-ext.core exts c.loop-ext.count c.args.most c.requires.some within c.requires.room c.loop-ext.invariant.opened c.loop-ext.invariant.none_held c.in_default.ensures.none)

@@ -1,5 +1,4 @@
-use Rattle.std.proofs.Common.{◌≡◌, ◌-◌, ◌<◌, ◌≤◌, map, take}
-use Rattle.samoa_serial.specs.History.{ext_of}
+use Rattle.std.proofs.Common.{◌≡◌, ◌-◌, ◌<◌, ◌≤◌, take}
 use Rattle.samoa_invariant.specs.Runs.{state}
 use Rattle.samoa_run.specs.Running.{HasOpened}
 use Rattle.samoa_run.proofs.running.admit_part.Given as goal
@@ -7,7 +6,7 @@ use Rattle.samoa_run.proofs.running.admit_part.Given as goal
 abbrev pub invariant-loop-ext : goal.invariant-loop-ext
 invariant-loop-ext g l = record {
   most : l.count ≤ l.most;
-  opened : HasOpened l.initial.core (take l.count (map ext_of l.items)) l.core;
+  opened : HasOpened l.initial.core (take l.count l.exts) l.core;
   none_held : l.count ≡ 0 → (state l.core).cells ≡ 0;
   held : 0 < l.count → 0 < (state l.core).cells;
 }

@@ -1,4 +1,4 @@
-use Rattle.samoa_core.specs.Scans.{IsLater}
+use Rattle.samoa_core.specs.Later.{IsLater}
 use Rattle.samoa_core.proofs.Later.{later-trans}
 use Rattle.samoa_run.proofs.Kept.{cleared-later, held-later}
 use Rattle.samoa_run.proofs.running.run_to_end.Goals as goal

@@ -3,7 +3,7 @@ use Rattle.std.proofs.lemmas.Option.{slice_get-get_or}
 use Rattle.samoa_model.specs.declared.record.Ext.{Ext}
 use Rattle.samoa_serial.specs.Report.{is_delivery, is_refusal}
 use Rattle.samoa_invariant.specs.Runs.{Trace, ext_at, no_ext}
-use Rattle.samoa_invariant.proofs.Traces.{count-few}
+use Rattle.samoa_invariant.proofs.representation.Traces.{count-few}
 use Rattle.samoa_run.specs.Running.{AreTotals, later_text}
 use Rattle.samoa_run.proofs.OneMore.{IsAt, room_for, text_all, text_more, totals_more}
 use Rattle.samoa_run.proofs.text.push_comps.Goals as goal
