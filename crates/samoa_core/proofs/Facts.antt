@@ -1,5 +1,5 @@
 -- What is known of a core by its invariant.
-use Rattle.std.proofs.Common.{arith, ◌≡◌, ◌≢◌, ◌⊎◌, inl, inr, ℕ, ◌-◌, ◌<◌, ◌≤◌, refl, sym, ap, subst, ◌∙◌, List, [], ◌∷◌, length, true, false, Option, Some, None}
+use Rattle.std.proofs.Common.{arith, ◌≡◌, ◌≢◌, ◌⊎◌, inl, inr, ◌↔◌, ℕ, ◌-◌, ◌<◌, ◌≤◌, refl, sym, ap, subst, ◌∙◌, List, [], ◌∷◌, length, Bool, true, false, not, Option, Some, None}
 use Rattle.std.specs.Prelude.{option_map}
 use Rattle.std.specs.Option.{IfSome}
 use Rattle.samoa_model.specs.Allowed.{weight}
@@ -203,3 +203,27 @@ moments-within t k sound lt = go (next_moment ((state t).comp k)) refl
     go : (step : Option (MicroId × Moment)) → next_moment ((state t).comp k) ≡ step → IfSome step (λ (s : MicroId × Moment). s.0.0 < length t.script.micros)
     go None e = tt
     go (Some step) e = let all : (state t).count ≡ length t.exts = sound.all in moment-within t k step sound (omega (arith, lt, all)) e
+
+-- what is next has its turn: it may begin exactly where its box is home and the core isn't stopped
+pub ready-is : (t : Trace) (comp : ℕ) (step : MicroId × Moment) (b : Bool) → IsRun t → 0 < comp → next_moment ((state t).comp (comp - 1)) ≡ Some step
+    → model.HasTurn (play t) (state t) (comp - 1) step.0.0 → (b ≡ true) ↔ (((state t).out ((play t).node (comp - 1)) step.0.0 ≡ None) × ((state t).stopped ≡ false))
+    → (b ≡ true) ↔ ((micro : ℕ) × IsDue t (Step.Enter comp micro))
+ready-is t comp step b run first next turn test = (
+  (λ goes. (step.0.0, record { number = first; enabled = begins (test.0 goes) })),
+  (λ due. test.1 (subst (λ (p : ℕ). (state t).out ((play t).node (comp - 1)) p ≡ None) (due-at t comp due.0 step due.1 next) due.1.enabled.home, due.1.enabled.running)),
+)
+  where
+    call : IsCallOf ((state t).comp (comp - 1)) step
+    call = call_of ((state t).comp (comp - 1)) step next
+
+    begins : ((state t).out ((play t).node (comp - 1)) step.0.0 ≡ None) × ((state t).stopped ≡ false) → model.CanEnter (play t) (state t) (comp - 1) step.0.0
+    begins free =
+        let at : call.call.handler.micro.0 ≡ step.0.0 = ap (λ (m : MicroId). m.0) call.is_at in
+        subst (λ (p : ℕ). model.CanEnter (play t) (state t) (comp - 1) p) at
+        (enter-due t (comp - 1) call.call step.1 run call.next (subst (λ (p : ℕ). model.HasTurn (play t) (state t) (comp - 1) p) (sym at) turn)
+        (subst (λ (p : ℕ). (state t).out ((play t).node (comp - 1)) p ≡ None) (sym at) free.0) free.1)
+
+-- what hasn't its turn may not begin
+pub not-ready : (t : Trace) (comp : ℕ) (step : MicroId × Moment) → next_moment ((state t).comp (comp - 1)) ≡ Some step → (model.HasTurn (play t) (state t) (comp - 1) step.0.0 → ⊥)
+    → ((micro : ℕ) × IsDue t (Step.Enter comp micro)) → ⊥
+not-ready t comp step next none due = none (subst (λ (p : ℕ). model.HasTurn (play t) (state t) (comp - 1) p) (due-at t comp due.0 step due.1 next) due.1.enabled.turn)

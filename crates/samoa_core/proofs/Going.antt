@@ -510,3 +510,8 @@ pub kept-ended : (fs : Fields) (comp : ℕ) (running : List Running) → Kept fs
 kept-ended fs comp running kept due since is =
     let item = item-there fs comp kept since due.enabled.admitted in
     rw (is item.0 item.1) (kept-end fs comp item.0 kept due since item.1)
+
+pub end-there : (fs : Fields) (comp : ℕ) → Kept fs → IsDue (trace_of fs) (Step.End comp) → cleared_comps (trace_of fs) < comp → comp - 1 - fs.first < length fs.running
+end-there fs comp kept due since =
+    let below : comp - 1 < length fs.exts = is_there fs comp kept due.enabled.admitted in
+    place-within fs comp kept since (omega (arith, below))

@@ -1,5 +1,5 @@
 //! Computations that were admitted since the last clear.
-ghost use Rattle.std.specs.Prelude.{◌≡◌, ℕ, ◌<◌, List, ◌∷◌, length, set, slice_get, true};
+ghost use Rattle.std.specs.Prelude.{◌≡◌, ◌↔◌, ◌⊎◌, ℕ, ◌<◌, ◌≤◌, IsTrue, List, ◌∷◌, length, set, slice_get, true};
 ghost use Rattle.samoa_model.specs.Range.{IsInRange};
 ghost use Rattle.samoa_model.specs.Scripts.{decl_at};
 ghost use Rattle.samoa_bind.specs.Bound.{table_at};
@@ -22,6 +22,15 @@ use samoa_versions::Versions;
 pub(crate) struct Interval {
     pub(crate) from: u64,
     pub(crate) to: u64,
+}
+
+impl Interval {
+    /// Whether it is empty, or a local version is past it.
+    pub(crate) fn is_over(self, local: u64) -> bool
+        ensures { IsTrue result ↔ ((self.to ≤ self.from) ⊎ (self.to ≤ local)) }
+    {
+        self.to <= self.from || self.to <= local
+    }
 }
 
 /// A computation: its node, the epoch of its table, its turns by microprotocol, its calls, and whether it has ended.
@@ -70,6 +79,15 @@ impl Running {
         let completed = self.calls.take_outcome(decl, tables, self.node, self.epoch, outcome);
         raise(decl, script.micros.len(), self.node, completed, versions);
     }
+}
+
+/// The computation at a place has ended.
+pub(crate) fn end_at(running: &mut Vec<Running>, at: usize)
+    requires { at < length running.old.items }
+    ensures { (r : Running) → slice_get running.old.items at ≡ Some r
+        → running.new.items ≡ set running.old.items at (record r { ended = true }) }
+{
+    running[at].end();
 }
 
 /// The computation at a place takes the outcome of its handler step.

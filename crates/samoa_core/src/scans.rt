@@ -11,6 +11,7 @@ ghost use Rattle.samoa_core.specs.Sound.{IsPast};
 use crate::forms::waits_for_rest;
 use crate::grid::place;
 use crate::kernel::Core;
+use crate::running::end_at;
 use samoa_micro::Micro;
 use samoa_model::Step;
 
@@ -179,7 +180,7 @@ impl<B: Micro> Core<B> {
         ensures step { self.new ≡ with_step self.old (Step.End comp) }
     {
         let at = (comp - 1 - self.first) as usize;
-        self.running[at].end();
+        end_at(&mut self.running, at);
         self.unended -= 1;
         self.journal.note(Step::End { comp });
     }

@@ -6,7 +6,8 @@ use Rattle.samoa_core.proofs.kernel.Core.end_all.Given as goal
 abbrev pub invariant-loop-comp : goal.invariant-loop-comp
 invariant-loop-comp g l = record {
   made : EndsBefore l.fn.self l.self (l.comp + 1);
-  cleared : cleared_comps l.self ≤ l.comp;
+  cleared : cleared_comps l.self ≡ cleared_comps l.fn.self;
+  from : cleared_comps l.fn.self ≤ l.comp;
   admitted : length l.self.exts ≡ l.admitted;
   below : l.comp ≤ l.admitted;
 }

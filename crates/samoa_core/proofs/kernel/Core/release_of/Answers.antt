@@ -17,7 +17,7 @@ loop-micro-init g c = record {
   made = releases_of-none c.args.self.now c.args.comp;
   kept = c.requires.kept;
   admitted = c.requires.admitted;
-  micros = sym c.micros.ensures;
+  micros = sym c.micros-micros.ensures;
   below = omega arith;
 }
 
@@ -31,6 +31,6 @@ loop-micro-preserved g c =
       made = made;
       kept = rw later.cleared kept;
       admitted = rw later.exts admitted;
-      micros = ap (λ s. length s.micros) later.script ∙ sym c.micros.ensures;
+      micros = ap (λ s. length s.micros) later.script ∙ sym c.micros-micros.ensures;
       below = omega arith;
     }

@@ -1,9 +1,10 @@
-use Rattle.std.proofs.Common.{arith, ◌≡◌, ◌∙◌, ◌≤◌, ◌<◌, ◌+◌, ◌*◌, ◌++◌, ◌∷◌, [], ℕ, List, length, length-append, ap, sym, subst, refl}
+use Rattle.std.proofs.Common.{arith, ◌≡◌, ◌∙◌, ◌≤◌, ◌<◌, ◌+◌, ◌-◌, ◌*◌, ◌++◌, ◌∷◌, [], ℕ, List, length, length-append, ap, sym, subst, refl}
 use Rattle.std.specs.Prelude.{get_or, vec_capacity}
 use Rattle.samoa_invariant.specs.Runs.{Trace}
 use Rattle.samoa_core.specs.Fields.{fields_of}
-use Rattle.samoa_core.specs.Kept.{Fields}
-use Rattle.samoa_core.proofs.Admitted.{Admits, kept-admission, small, unended-fits}
+use Rattle.samoa_model.specs.declared.record.Ext.{Ext}
+use Rattle.samoa_core.specs.Kept.{Fields, trace_of}
+use Rattle.samoa_core.proofs.Admitted.{Admits, kept-taken, small, unended-fits}
 use Rattle.samoa_core.proofs.Keeps.{kept-room}
 use Rattle.samoa_core.proofs.kernel.Core.take.Goals as goal
 
@@ -24,3 +25,39 @@ pub overflow_add-self-2 : goal.overflow_add-self-2
 overflow_add-self-2 g c =
     let most = unended-fits (fields_of c.self.inside) c.self.invariant in
     omega (arith, most)
+
+pub invariant_of-self-in_err-steps : goal.invariant_of-self-in_err-steps
+invariant_of-self-in_err-steps g c =
+    rw (c.room_for_one.ensures.exts, c.room_for_one.ensures.running, c.room_for_one.ensures.clears)
+    (kept-room (fields_of c.self.inside) _ c.self.invariant c.room_for_one.ensures.clears_kept)
+
+pub invariant_of-self-in_err-promise : goal.invariant_of-self-in_err-promise
+invariant_of-self-in_err-promise g c =
+    rw (c.room_for_one.ensures.exts, c.room_for_one.ensures.running, c.room_for_one.ensures.clears, c.in_err-promise.ensures.err)
+    (kept-room (fields_of c.self.inside) _ c.self.invariant c.room_for_one.ensures.clears_kept)
+
+pub invariant_of-self-2 : goal.invariant_of-self-2
+invariant_of-self-2 g c =
+    let fs : Fields = fields_of c.self.inside in
+    let ext : Ext = c.args.ext.now in
+    let admits : Admits (trace_of fs) ext = subst (λ (x : Trace). Admits x ext) (sym c.self.view_is) (record { known = c.requires.known; few = c.requires.few; fits = c.requires.fits }) in
+    let was = c.room_for_one.ensures in
+    let longer : length c.push_reserved.new.self.items ≡ length fs.exts + 1 =
+    ap length c.push_reserved.ensures.items ∙ (ap (λ (xs : List Ext). length (xs ++ ext ∷ [])) was.exts ∙ length-append fs.exts (ext ∷ [])) in
+    let ok = c.push_reserved.new.self.ok in
+    let number : c.len-comp.result ≡ length fs.exts + 1 = omega (arith, c.len-comp.ensures, ok, longer) in
+    let as_many : length c.room_for_one.new.clears.items ≡ length fs.clears = ap length was.clears in
+    let clears_room = c.in_ok-room_for_one.ensures.clears_room in
+    rw (
+      c.note.ensures,
+      c.in_ok-promise.ensures.ok,
+      c.push_reserved.ensures.items,
+      c.push_reserved-2.ensures.items,
+      was.exts,
+      was.running,
+      was.clears,
+      c.turns_of-turns.ensures.lv,
+    )
+    (kept-taken fs ext c.len-comp.result (fs.held + c.cells_of.result) c.in_ok-steps.steps (vec_capacity c.room_for_one.new.clears) c.decl.result c.decl-2.result c.decl_in.result.now
+    c.turns_of-turns.new.versions.gv _ c.self.invariant admits refl c.current.ensures refl c.in_ok-calls.ensures.calls c.in_ok-calls.ensures.none_waits c.decl.ensures c.decl-2.ensures c.decl_in.ensures
+    c.in_ok-steps.ensures c.turns_of-turns.ensures.turns c.turns_of-turns.ensures.gv number (ap (λ (n : ℕ). fs.held + n) c.cells_of.ensures.cells) (omega (arith, clears_room, as_many)))
