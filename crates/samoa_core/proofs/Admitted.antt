@@ -5,12 +5,13 @@ use Rattle.std.proofs.lemmas.List.Elements.{All-nil}
 use Rattle.samoa_model.specs.Allowed.{weight}
 use Rattle.samoa_model.specs.Cells.{cells_of}
 use Rattle.samoa_model.specs.Range.{IsExtOf}
-use Rattle.samoa_model.specs.Scripts.{Table, caused, decl_of, root_of}
+use Rattle.samoa_model.specs.Scripts.{Table, caused, decl_at, decl_of, root_of}
 use Rattle.samoa_model.specs.declared.handler.Moment.{Moment}
 use Rattle.samoa_model.specs.declared.ids.NodeId.{NodeId}
 use Rattle.samoa_model.specs.declared.record.Ext.{Ext}
 use Rattle.samoa_model.specs.declared.record.Step.{Step}
 use Rattle.samoa_model.specs.declared.script.Decl.{Decl}
+use Rattle.samoa_model.specs.declared.script.DeclDef.{DeclDef}
 use Rattle.samoa_model.specs.declared.script.Script.{Script}
 use Rattle.samoa_bind.specs.Bound.{epochs_of, table_at}
 use Rattle.samoa_calls.specs.Held.{Held, handlers_of}
@@ -341,6 +342,30 @@ kept-admission fs ext number held promised clears_room global r kept admits is i
     known_at : (j : ℕ) → j < suc (length fs.exts) → (j ≡ length fs.exts) ⊎ (j ≢ length fs.exts) → IsExtOf fs.script (ext_at (fs.exts ++ ext ∷ []) j)
     known_at j lt (inl e) = rw (e, new_ext fs.exts ext) admits.known
     known_at j lt (inr ne) = rw (old_ext fs.exts ext j (omega (arith, lt, ne))) (kept.known j (omega (arith, lt, ne)))
+
+-- the same, by what an admission's parts say of the number of its declaration
+pub kept-taken : (fs : Fields) (ext : Ext) (number held steps clears_room n m : ℕ) (d : DeclDef) (global : List ℕ) (r : Running) → Kept fs → Admits (trace_of fs) ext
+    → r.node ≡ ext.node → r.epoch + 1 ≡ length (epochs_of fs.tables ext.node) → r.ended ≡ false → r.calls ≡ started fs.script fs.tables ext → r.calls.comp.waiting ≡ []
+    → n ≡ r.calls.decl → m ≡ r.calls.decl → d ≡ decl_at fs.script n → steps ≡ steps_of d + 1
+    → r.turns.items ≡ turns_taken (decl_at fs.script m).decl (length fs.script.micros) ext.node.0 fs.global (length fs.script.micros)
+    → global ≡ raised (decl_at fs.script m).decl (length fs.script.micros) ext.node.0 fs.global (length fs.script.micros)
+    → number ≡ length fs.exts + 1 → held ≡ fs.held + cells_of fs.script ext → length fs.clears < clears_room
+    → Kept (after_admission fs ext number held (fs.promised + steps - 1) clears_room global r)
+kept-taken fs ext number held steps clears_room n m d global r kept admits node epoch unended calls waits is_n is_m is_d is_steps turns is_global is_number is_held clears =
+    let decl : r.calls.decl ≡ decl_number fs.script ext = ap (λ (h : Held). h.decl) calls in
+    let of : d ≡ decl_of fs.script ext = is_d ∙ ap (λ (i : ℕ). decl_at fs.script i) (is_n ∙ decl) in
+    let many : steps ≡ steps_of (decl_of fs.script ext) + 1 = is_steps ∙ ap (λ (x : DeclDef). steps_of x + 1) of in
+    kept-admission fs ext number held (fs.promised + steps - 1) clears_room global r kept admits
+    (record {
+      node = node;
+      epoch = epoch;
+      turns = turns ∙ ap (λ (i : ℕ). turns_taken (decl_at fs.script i).decl (length fs.script.micros) ext.node.0 fs.global (length fs.script.micros)) (is_m ∙ decl);
+      calls = calls;
+      none_waits = waits;
+      unended = unended;
+    })
+    is_number is_held (omega (arith, many)) clears
+    (is_global ∙ ap (λ (i : ℕ). raised (decl_at fs.script i).decl (length fs.script.micros) ext.node.0 fs.global (length fs.script.micros)) (is_m ∙ decl))
 
 -- how many haven't ended
 pub unended-fits : (fs : Fields) → Kept fs → fs.unended ≤ 100000

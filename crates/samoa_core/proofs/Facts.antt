@@ -204,25 +204,26 @@ moments-within t k sound lt = go (next_moment ((state t).comp k)) refl
     go None e = tt
     go (Some step) e = let all : (state t).count ≡ length t.exts = sound.all in moment-within t k step sound (omega (arith, lt, all)) e
 
--- what is next has its turn and is home: it may begin exactly where the core isn't stopped
-pub ready-is : (t : Trace) (comp : ℕ) (step : MicroId × Moment) (stopped : Bool) → IsRun t → 0 < comp → next_moment ((state t).comp (comp - 1)) ≡ Some step
-    → model.HasTurn (play t) (state t) (comp - 1) step.0.0 → (state t).out ((play t).node (comp - 1)) step.0.0 ≡ None → stopped ≡ (state t).stopped
-    → (not stopped ≡ true) ↔ ((micro : ℕ) × IsDue t (Step.Enter comp micro))
-ready-is t comp step stopped run first next turn home is = (
-  (λ yes. (step.0.0, record { number = first; enabled = begins (runs stopped refl yes) })),
-  (λ due. let still : (state t).stopped ≡ false = due.1.enabled.running in ap not (is ∙ still)),
+-- what is next has its turn: it may begin exactly where its box is home and the core isn't stopped
+pub ready-is : (t : Trace) (comp : ℕ) (step : MicroId × Moment) (b : Bool) → IsRun t → 0 < comp → next_moment ((state t).comp (comp - 1)) ≡ Some step
+    → model.HasTurn (play t) (state t) (comp - 1) step.0.0 → (b ≡ true) ↔ (((state t).out ((play t).node (comp - 1)) step.0.0 ≡ None) × ((state t).stopped ≡ false))
+    → (b ≡ true) ↔ ((micro : ℕ) × IsDue t (Step.Enter comp micro))
+ready-is t comp step b run first next turn test = (
+  (λ goes. (step.0.0, record { number = first; enabled = begins (test.0 goes) })),
+  (λ due. test.1 (subst (λ (p : ℕ). (state t).out ((play t).node (comp - 1)) p ≡ None) (due-at t comp due.0 step due.1 next) due.1.enabled.home, due.1.enabled.running)),
 )
   where
-    runs : (b : Bool) → stopped ≡ b → not stopped ≡ true → (state t).stopped ≡ false
-    runs true e yes = cc
-    runs false e yes = sym is ∙ e
-
     call : IsCallOf ((state t).comp (comp - 1)) step
     call = call_of ((state t).comp (comp - 1)) step next
 
-    begins : (state t).stopped ≡ false → model.CanEnter (play t) (state t) (comp - 1) step.0.0
-    begins running =
+    begins : ((state t).out ((play t).node (comp - 1)) step.0.0 ≡ None) × ((state t).stopped ≡ false) → model.CanEnter (play t) (state t) (comp - 1) step.0.0
+    begins free =
         let at : call.call.handler.micro.0 ≡ step.0.0 = ap (λ (m : MicroId). m.0) call.is_at in
         subst (λ (p : ℕ). model.CanEnter (play t) (state t) (comp - 1) p) at
         (enter-due t (comp - 1) call.call step.1 run call.next (subst (λ (p : ℕ). model.HasTurn (play t) (state t) (comp - 1) p) (sym at) turn)
-        (subst (λ (p : ℕ). (state t).out ((play t).node (comp - 1)) p ≡ None) (sym at) home) running)
+        (subst (λ (p : ℕ). (state t).out ((play t).node (comp - 1)) p ≡ None) (sym at) free.0) free.1)
+
+-- what hasn't its turn may not begin
+pub not-ready : (t : Trace) (comp : ℕ) (step : MicroId × Moment) → next_moment ((state t).comp (comp - 1)) ≡ Some step → (model.HasTurn (play t) (state t) (comp - 1) step.0.0 → ⊥)
+    → ((micro : ℕ) × IsDue t (Step.Enter comp micro)) → ⊥
+not-ready t comp step next none due = none (subst (λ (p : ℕ). model.HasTurn (play t) (state t) (comp - 1) p) (due-at t comp due.0 step due.1 next) due.1.enabled.turn)

@@ -15,19 +15,22 @@ use Rattle.samoa_invariant.specs.Play.{IsIdle, Play, version}
 use Rattle.samoa_invariant.specs.State as model
 use Rattle.samoa_invariant.specs.Runs.{IsDue, IsRun, Trace, ext_at, play, state, with_step}
 use Rattle.samoa_invariant.specs.Settling.{EndsAll, EndsBefore, ReleasesAll, ReleasesBefore, ReleasesOf}
-use Rattle.samoa_invariant.proofs.refinement.Ends.{idle_is_whole}
-use Rattle.samoa_invariant.proofs.settling.Making.{due-admitted, due-open, end-admitted, ends_before-all, ends_before-make, ends_before-none, ends_before-skip, releases_before-all, releases_before-make, releases_before-none, releases_of-make, releases_of-none, releases_of-skip}
-use Rattle.samoa_invariant.proofs.preservation.Slots.{turn_declares}
-use Rattle.samoa_invariant.proofs.representation.Traces.{invariant}
-use Rattle.samoa_invariant.proofs.preservation.Versions.{version-own}
+use Rattle.samoa_invariant.proofs.Ends.{idle_is_whole}
+use Rattle.samoa_invariant.proofs.Making.{due-admitted, due-open, end-admitted, ends_before-all, ends_before-make, ends_before-none, ends_before-skip, releases_before-all, releases_before-make, releases_before-none, releases_of-make, releases_of-none, releases_of-skip}
+use Rattle.samoa_invariant.proofs.Releasing.{ends-leave, releases-leave}
+use Rattle.samoa_invariant.proofs.Slots.{turn_declares}
+use Rattle.samoa_invariant.proofs.Traces.{invariant}
+use Rattle.samoa_invariant.proofs.Versions.{version-own}
 use Rattle.samoa_core.specs.Forms.{waits_for_rest}
 use Rattle.samoa_core.specs.Known.{decl_number}
+use Rattle.samoa_core.specs.Later.{IsLater, IsStill}
 use Rattle.samoa_core.specs.Running.{IsRunning, turn_of}
 use Rattle.samoa_core.specs.declared.running.Interval.{Interval}
 use Rattle.samoa_core.specs.declared.running.Running.{Running}
 use Rattle.samoa_core.specs.Since.{cleared_comps}
 use Rattle.samoa_core.specs.Sound.{IsPast, IsSound}
 use Rattle.samoa_core.proofs.Declares.{declares_known}
+use Rattle.samoa_core.proofs.Later.{later-made, still-unmoved}
 
 suc_is : (n : ℕ) → suc n ≡ n + 1
 suc_is n = omega arith
@@ -163,3 +166,50 @@ not-waiting t c p idle waits run due test busy is = go waits refl
     go : (b : Bool) → waits ≡ b → not waits ≡ true
     go true e = let yes : idle ≡ true = test.1 (due-idle t c p run (sym is ∙ e) due) in cc
     go false e = ap not e
+
+-- what a pass over all computations leaves
+pub record IsPassed (All : Trace → Trace → Type 0) (t u : Trace) : Type 0 where
+  pub all : All t u
+  pub still : IsStill (state t) u
+  pub later : IsLater t u
+  pub not_more : model.left (play u) (state u) ≤ model.left (play t) (state t)
+
+pub releases-passed : (t u : Trace) (n : ℕ) → IsSound t → IsSound u → length u.exts ≤ n → ReleasesBefore t u (n + 1) → IsPassed ReleasesAll t u
+releases-passed t u n before sound le passed =
+    let all : ReleasesAll t u = pass-ends t u n sound le passed in
+    let leaves = releases-leave t u before.run all in
+    record { all = all; still = still-unmoved t u leaves.unmoved; later = later-made t u all.steps before.run all.made; not_more = leaves.not_more }
+
+pub ends-passed : (t u : Trace) (n : ℕ) → IsSound t → IsSound u → length u.exts ≤ n → EndsBefore t u (n + 1) → IsPassed EndsAll t u
+ends-passed t u n before sound le passed =
+    let all : EndsAll t u = ends-end t u n sound le passed in
+    let leaves = ends-leave t u before.run all in
+    record { all = all; still = still-unmoved t u leaves.unmoved; later = later-made t u all.steps before.run all.made; not_more = leaves.not_more }
+
+-- where each of the first microprotocols is past, all are
+pub all-past : (t : Trace) (k n : ℕ) → IsSound t → length t.script.micros ≤ n → ((p : ℕ) → p < n → IsPast (play t) (state t) k p) → (p : ℕ) → IsPast (play t) (state t) k p
+all-past t k n sound le past p some =
+    let lt : p < length t.script.micros = declares_known t.script sound.in_range (decl_number t.script (ext_at t.exts k)) p some in
+    past p (omega (arith, lt, le)) some
+
+true_apart : true ≡ false → ⊥
+true_apart e = subst (λ (b : Bool). IsIt b) e tt
+  where
+    IsIt : Bool → Type 0
+    IsIt true = Unit {0}
+    IsIt false = ⊥
+
+-- none of the first computations may begin
+pub none-yet : (t : Trace) (n : ℕ) (b : Bool) → ((e m : ℕ) → e ≤ n → IsDue t (Step.Enter e m) → ⊥) → (b ≡ true) ↔ ((m : ℕ) × IsDue t (Step.Enter (n + 1) m)) → b ≡ false
+    → (e m : ℕ) → e ≤ n + 1 → IsDue t (Step.Enter e m) → ⊥
+none-yet t n b none test not_ready e m le due = go (before_or_at e)
+  where
+    before_or_at : (i : ℕ) → (i ≤ n) ⊎ (n < i)
+    before_or_at i = grind arith
+
+    go : (e ≤ n) ⊎ (n < e) → ⊥
+    go (inl before) = none e m before due
+    go (inr after) =
+        let here : e ≡ n + 1 = omega (arith, after, le) in
+        let ready : b ≡ true = test.1 (m, subst (λ (i : ℕ). IsDue t (Step.Enter i m)) here due) in
+        absurd (let both : true ≡ false = sym ready ∙ not_ready in true_apart both)

@@ -1,5 +1,5 @@
 //! The core: what it holds, and what is read of it.
-ghost use Rattle.std.specs.Prelude.{◌≡◌, ℕ, ◌<◌, ◌≤◌, ◌+◌, ◌-◌, ◌↔◌, length, None, true, IsTrue, IfOk, IfSome};
+ghost use Rattle.std.specs.Prelude.{◌≡◌, ℕ, ◌<◌, ◌≤◌, ◌+◌, ◌-◌, ◌↔◌, length, None, true, false, IsTrue, IfOk, IfSome};
 ghost use Rattle.samoa_model.specs.Cells.{cells_of as computation_cells, need};
 ghost use Rattle.samoa_model.specs.Range.{IsBuilt, IsDeclOf, IsExtOf, IsInRange};
 ghost use Rattle.samoa_model.specs.declared.record.Step.{Step};
@@ -281,6 +281,19 @@ impl<B: Micro> Core<B> {
         self.slots.is_home(node, micro)
     }
 
+    /// Whether a microprotocol is home at a computation's node, in a core that isn't stopped.
+    fn may_go_out(&self, comp: u32, micro: u32) -> bool
+        requires kept { cleared_comps self.now < comp }
+        requires admitted { comp ≤ length self.now.exts }
+        requires micro { micro < length self.now.script.micros }
+        ensures { IsTrue result ↔ (((state self.now).out ((play self.now).node (comp - 1)) micro ≡ None) × ((state self.now).stopped ≡ false)) }
+    {
+        self.recall();
+        let node = self.running(comp).node;
+        let stopped = self.stopped();
+        self.is_home(node, micro) && !stopped
+    }
+
     /// Whether the next handler step of a computation may begin.
     pub(crate) fn is_ready(&self, comp: u32) -> bool
         requires kept { cleared_comps self.now < comp }
@@ -290,11 +303,7 @@ impl<B: Micro> Core<B> {
         self.recall();
         match self.next(comp) {
             None => false,
-            Some((micro, _)) => {
-                self.has_turn(comp, micro.0)
-                    && self.is_home(self.running(comp).node, micro.0)
-                    && !self.stopped
-            }
+            Some((micro, _)) => self.has_turn(comp, micro.0) && self.may_go_out(comp, micro.0),
         }
     }
 }

@@ -1,11 +1,10 @@
 use Rattle.std.proofs.Common.{arith, ◌≡◌, ◌≤◌, ◌<◌, ◌+◌, ◌∙◌, ap, sym, refl, length, ℕ}
 use Rattle.samoa_invariant.specs.Runs.{Trace}
 use Rattle.samoa_invariant.specs.Settling.{EndsBefore}
-use Rattle.samoa_invariant.proofs.settling.Releasing.{ends-leave}
 use Rattle.samoa_core.specs.Later.{IsLater}
 use Rattle.samoa_core.specs.Since.{cleared_comps}
-use Rattle.samoa_core.proofs.Later.{later-made, still-unmoved}
-use Rattle.samoa_core.proofs.Passes.{ends-begin, ends-end}
+use Rattle.samoa_core.proofs.Later.{later-made}
+use Rattle.samoa_core.proofs.Passes.{ends-begin, ends-passed}
 use Rattle.samoa_core.proofs.kernel.Core.end_all.Goals as goal
 
 pub loop-comp-init : goal.loop-comp-init
@@ -29,3 +28,27 @@ loop-comp-preserved g c =
       admitted = ap length later.exts ∙ sym c.admitted-admitted.ensures.count;
       below = omega arith;
     }
+
+pub returns-clause-ends : goal.returns-clause-ends
+returns-clause-ends g c =
+    let exts = c.loop-comp.invariant.admitted in
+    let ends = c.loop-comp-test.false in
+    (ends-passed c.args.self.now c.loop-comp.self c.loop-comp.comp c.recall.ensures c.recall-2.ensures (omega (arith, exts, ends)) c.loop-comp.invariant.made).all
+
+pub returns-clause-still : goal.returns-clause-still
+returns-clause-still g c =
+    let exts = c.loop-comp.invariant.admitted in
+    let ends = c.loop-comp-test.false in
+    (ends-passed c.args.self.now c.loop-comp.self c.loop-comp.comp c.recall.ensures c.recall-2.ensures (omega (arith, exts, ends)) c.loop-comp.invariant.made).still
+
+pub returns-clause-later : goal.returns-clause-later
+returns-clause-later g c =
+    let exts = c.loop-comp.invariant.admitted in
+    let ends = c.loop-comp-test.false in
+    (ends-passed c.args.self.now c.loop-comp.self c.loop-comp.comp c.recall.ensures c.recall-2.ensures (omega (arith, exts, ends)) c.loop-comp.invariant.made).later
+
+pub returns-clause-not_more : goal.returns-clause-not_more
+returns-clause-not_more g c =
+    let exts = c.loop-comp.invariant.admitted in
+    let ends = c.loop-comp-test.false in
+    (ends-passed c.args.self.now c.loop-comp.self c.loop-comp.comp c.recall.ensures c.recall-2.ensures (omega (arith, exts, ends)) c.loop-comp.invariant.made).not_more

@@ -2,12 +2,9 @@ use Rattle.std.proofs.Common.{arith, ◌≡◌, ◌∙◌, ◌≤◌, ◌<◌, �
 use Rattle.std.specs.Prelude.{get_or, vec_capacity}
 use Rattle.samoa_invariant.specs.Runs.{Trace}
 use Rattle.samoa_core.specs.Fields.{fields_of}
-use Rattle.samoa_model.specs.Scripts.{decl_at, decl_of}
 use Rattle.samoa_model.specs.declared.record.Ext.{Ext}
-use Rattle.samoa_calls.specs.Held.{Held}
-use Rattle.samoa_core.specs.Admission.{raised, steps_of, turns_taken}
 use Rattle.samoa_core.specs.Kept.{Fields, trace_of}
-use Rattle.samoa_core.proofs.Admitted.{Admits, kept-admission, small, unended-fits}
+use Rattle.samoa_core.proofs.Admitted.{Admits, kept-taken, small, unended-fits}
 use Rattle.samoa_core.proofs.Keeps.{kept-room}
 use Rattle.samoa_core.proofs.kernel.Core.take.Goals as goal
 
@@ -45,16 +42,12 @@ invariant_of-self-2 g c =
     let ext : Ext = c.args.ext.now in
     let admits : Admits (trace_of fs) ext = subst (λ (x : Trace). Admits x ext) (sym c.self.view_is) (record { known = c.requires.known; few = c.requires.few; fits = c.requires.fits }) in
     let was = c.room_for_one.ensures in
-    let calls = c.in_ok-calls.ensures.calls in
-    let decl = ap (λ (h : Held). h.decl) calls in
     let longer : length c.push_reserved.new.self.items ≡ length fs.exts + 1 =
     ap length c.push_reserved.ensures.items ∙ (ap (λ (xs : List Ext). length (xs ++ ext ∷ [])) was.exts ∙ length-append fs.exts (ext ∷ [])) in
     let ok = c.push_reserved.new.self.ok in
     let number : c.len-comp.result ≡ length fs.exts + 1 = omega (arith, c.len-comp.ensures, ok, longer) in
     let as_many : length c.room_for_one.new.clears.items ≡ length fs.clears = ap length was.clears in
     let clears_room = c.in_ok-room_for_one.ensures.clears_room in
-    let steps : c.in_ok-steps.steps ≡ steps_of (decl_of fs.script ext) + 1 =
-    rw (← decl, ← c.decl_in.ensures) c.in_ok-steps.ensures in
     rw (
       c.note.ensures,
       c.in_ok-promise.ensures.ok,
@@ -65,15 +58,6 @@ invariant_of-self-2 g c =
       was.clears,
       c.turns_of-turns.ensures.lv,
     )
-    (kept-admission fs ext c.len-comp.result (fs.held + c.cells_of.result) (fs.promised + c.in_ok-steps.steps - 1) (vec_capacity c.room_for_one.new.clears) c.turns_of-turns.new.versions.gv _
-    c.self.invariant admits
-    (record {
-      node = refl;
-      epoch = c.current.ensures;
-      turns = c.turns_of-turns.ensures.turns ∙ ap (λ (n : ℕ). turns_taken (decl_at fs.script n).decl (length fs.script.micros) ext.node.0 fs.global (length fs.script.micros)) decl;
-      calls = calls;
-      none_waits = c.in_ok-calls.ensures.none_waits;
-      unended = refl;
-    })
-    number (ap (λ (n : ℕ). fs.held + n) c.cells_of.ensures.cells) (omega (arith, steps)) (omega (arith, clears_room, as_many))
-    (c.turns_of-turns.ensures.gv ∙ ap (λ (n : ℕ). raised (decl_at fs.script n).decl (length fs.script.micros) ext.node.0 fs.global (length fs.script.micros)) decl))
+    (kept-taken fs ext c.len-comp.result (fs.held + c.cells_of.result) c.in_ok-steps.steps (vec_capacity c.room_for_one.new.clears) c.decl.result c.decl-2.result c.decl_in.result.now
+    c.turns_of-turns.new.versions.gv _ c.self.invariant admits refl c.current.ensures refl c.in_ok-calls.ensures.calls c.in_ok-calls.ensures.none_waits c.decl.ensures c.decl-2.ensures c.decl_in.ensures
+    c.in_ok-steps.ensures c.turns_of-turns.ensures.turns c.turns_of-turns.ensures.gv number (ap (λ (n : ℕ). fs.held + n) c.cells_of.ensures.cells) (omega (arith, clears_room, as_many)))

@@ -8,4 +8,4 @@ pub raise-requires-clause-below : goal.raise-requires-clause-below
 raise-requires-clause-below c = rw (c.len.ensures, c.take_outcome-completed.ensures.ended c.requires.takes.first c.requires.takes.rest c.requires.takes.active) c.requires.takes.below
 
 pub returns-clause-lv : goal.returns-clause-lv
-returns-clause-lv c a rest is = rw (c.raise.ensures.lv, c.take_outcome-completed.ensures.ended a rest is, c.len.ensures, c.decl_in.ensures) refl
+returns-clause-lv c a rest is = rw (c.raise.ensures.lv, c.take_outcome-completed.ensures.ended a rest is, c.len.ensures, c.decl_in.ensures, c.decl.ensures) refl
