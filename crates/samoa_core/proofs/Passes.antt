@@ -15,12 +15,12 @@ use Rattle.samoa_invariant.specs.Play.{IsIdle, Play, version}
 use Rattle.samoa_invariant.specs.State as model
 use Rattle.samoa_invariant.specs.Runs.{IsDue, IsRun, Trace, ext_at, play, state, with_step}
 use Rattle.samoa_invariant.specs.Settling.{EndsAll, EndsBefore, ReleasesAll, ReleasesBefore, ReleasesOf}
-use Rattle.samoa_invariant.proofs.Ends.{idle_is_whole}
-use Rattle.samoa_invariant.proofs.Making.{due-admitted, due-open, end-admitted, ends_before-all, ends_before-make, ends_before-none, ends_before-skip, releases_before-all, releases_before-make, releases_before-none, releases_of-make, releases_of-none, releases_of-skip}
-use Rattle.samoa_invariant.proofs.Releasing.{ends-leave, releases-leave}
-use Rattle.samoa_invariant.proofs.Slots.{turn_declares}
-use Rattle.samoa_invariant.proofs.Traces.{invariant}
-use Rattle.samoa_invariant.proofs.Versions.{version-own}
+use Rattle.samoa_invariant.proofs.refinement.Ends.{idle_is_whole}
+use Rattle.samoa_invariant.proofs.settling.Making.{due-admitted, due-open, end-admitted, ends_before-all, ends_before-make, ends_before-none, ends_before-skip, releases_before-all, releases_before-make, releases_before-none, releases_of-make, releases_of-none, releases_of-skip}
+use Rattle.samoa_invariant.proofs.settling.Releasing.{ends-leave, releases-leave}
+use Rattle.samoa_invariant.proofs.preservation.Slots.{turn_declares}
+use Rattle.samoa_invariant.proofs.representation.Traces.{invariant}
+use Rattle.samoa_invariant.proofs.preservation.Versions.{version-own}
 use Rattle.samoa_core.specs.Forms.{waits_for_rest}
 use Rattle.samoa_core.specs.Known.{decl_number}
 use Rattle.samoa_core.specs.Later.{IsLater, IsStill}

@@ -1,5 +1,5 @@
 use Rattle.std.proofs.Common.{◌≡◌, ◌∙◌}
-use Rattle.samoa_invariant.proofs.Scripted.{get_is}
+use Rattle.samoa_invariant.proofs.representation.Scripted.{get_is}
 use Rattle.samoa_core.specs.declared.running.Running.{Running}
 use Rattle.samoa_core.proofs.running.take_outcome_at.Goals as goal
 

@@ -1,6 +1,6 @@
 use Rattle.std.proofs.Common.{◌≡◌, ◌∙◌, ◌-◌, ap, sym, true}
 use Rattle.samoa_invariant.specs.Runs.{state}
-use Rattle.samoa_invariant.proofs.Making.{due-open}
+use Rattle.samoa_invariant.proofs.settling.Making.{due-open}
 use Rattle.samoa_core.specs.Forms.{waits_for_rest}
 use Rattle.samoa_core.proofs.Passes.{not-waiting}
 use Rattle.samoa_core.proofs.kernel.Core.may_have_releases.Goals as goal
