@@ -291,8 +291,8 @@ kept-admission fs ext number held promised clears_room global r kept admits is i
           (λ i x lt there. old_runs i x (omega (arith, lt, size)) (kept.holds.running i x there));
       past = λ j lt. put-else {A = Bool} core.ended k j false (λ e. omega (arith, e, lt, all, first_most)) ∙ kept.holds.past j lt;
       unended = (let was : fs.unended ≡ unended core = kept.holds.unended in
-      let more : unended after ≡ unended core + 1 = unended-admit core after refl refl in
-      omega (arith, was, more));
+          let more : unended after ≡ unended core + 1 = unended-admit core after refl refl in
+          omega (arith, was, more));
       away = kept.holds.away;
       stopped = kept.holds.stopped;
     } in

@@ -142,8 +142,8 @@ kept-enter fs comp p node kept at =
       past = kept.holds.past;
       unended = kept.holds.unended;
       away = (let was : fs.away ≡ away_in fs.script core = kept.holds.away in
-      let more : away_in fs.script after ≡ away_in fs.script core + 1 = away-out fs.script core after v p k lt at.within refl home in
-      omega (arith, was, more));
+          let more : away_in fs.script after ≡ away_in fs.script core + 1 = away-out fs.script core after v p k lt at.within refl home in
+          omega (arith, was, more));
       stopped = kept.holds.stopped;
     })
 
@@ -300,8 +300,8 @@ kept-leave fs comp p node held o r kept comes at_place named =
       past = kept.holds.past;
       unended = kept.holds.unended;
       away = (let was : fs.away ≡ away_in fs.script core = kept.holds.away in
-      let less : away_in fs.script after + 1 ≡ away_in fs.script core = away-back fs.script core after v q k lt inside refl out in
-      omega (arith, was, less));
+          let less : away_in fs.script after + 1 ≡ away_in fs.script core = away-back fs.script core after v q k lt inside refl out in
+          omega (arith, was, less));
       stopped = kept.holds.stopped;
     } in
     kept-with fs (Step.Leave comp) local slots running fs.unended (fs.away - 1) fs.stopped kept at.due tt kept.micros (subst (λ (x : model.Core). Holds next x) (sym is) holds)
@@ -342,8 +342,8 @@ kept-abandon fs comp p node held kept back =
       past = kept.holds.past;
       unended = kept.holds.unended;
       away = (let was : fs.away ≡ away_in fs.script core = kept.holds.away in
-      let less : away_in fs.script after + 1 ≡ away_in fs.script core = away-back fs.script core after v p k lt at.within refl out in
-      omega (arith, was, less));
+          let less : away_in fs.script after + 1 ≡ away_in fs.script core = away-back fs.script core after v p k lt at.within refl out in
+          omega (arith, was, less));
       stopped = refl;
     } in
     kept-with fs (Step.Abandon comp) fs.local slots fs.running fs.unended (fs.away - 1) true kept at.due tt kept.micros (subst (λ (x : model.Core). Holds next x) (sym is) holds)
@@ -437,8 +437,8 @@ kept-end fs comp r kept due since there =
           (put-else {A = Bool} core.ended k (fs.first + i) true (λ e. ne (omega (arith, e)))) old);
       past = λ j less. put-else {A = Bool} core.ended k j true (λ e. omega (arith, e, less, first, since)) ∙ kept.holds.past j less;
       unended = (let was : fs.unended ≡ unended core = kept.holds.unended in
-      let less : unended after + 1 ≡ unended core = unended-end core k due.enabled.admitted due.enabled.not_ended in
-      omega (arith, was, less));
+          let less : unended after + 1 ≡ unended core = unended-end core k due.enabled.admitted due.enabled.not_ended in
+          omega (arith, was, less));
       away = kept.holds.away;
       stopped = kept.holds.stopped;
     })

@@ -27,6 +27,7 @@ use std::alloc::Global;
 
 /// How many steps a unit may come to, and how many a computation beside these and its releases.
 const STEPS_A_UNIT: u64 = 10;
+
 const BESIDE_UNITS: u64 = 12;
 
 impl<B: Micro> Core<B> {
@@ -64,7 +65,13 @@ impl<B: Micro> Core<B> {
         room_for_one(&mut self.exts, &mut self.running, &mut self.clears)?;
         let steps = steps_for(decl_in(&self.script, calls.decl()))?;
         self.journal.promise(steps)?;
-        let turns = turns_of(&self.script, calls.decl(), ext.node, &mut self.versions, turns);
+        let turns = turns_of(
+            &self.script,
+            calls.decl(),
+            ext.node,
+            &mut self.versions,
+            turns,
+        );
         let running = Running {
             node: ext.node,
             epoch: self.tables.current(ext.node),
@@ -142,7 +149,15 @@ fn fresh_parts(
     ensures turns { IfOk result (λ r. r.1.items ≡ []) }
 {
     match spare {
-        Some(Running { node: _, epoch: _, mut turns, calls, ended: _ }) => {
+        Some(
+            Running {
+                node: _,
+                epoch: _,
+                mut turns,
+                calls,
+                ended: _,
+            },
+        ) => {
             turns.clear();
             Ok((calls.renewed(decl, budget)?, turns))
         }
@@ -210,7 +225,13 @@ fn take_turns(
     turns
 }
 
-fn take_turn(decl: &Decl, columns: usize, node: u32, micro: u32, versions: &mut Versions) -> Interval
+fn take_turn(
+    decl: &Decl,
+    columns: usize,
+    node: u32,
+    micro: u32,
+    versions: &mut Versions,
+) -> Interval
     requires light { weight decl.now micro ≤ 256 }
     requires few { columns ≤ 24 }
     requires there { node * columns + micro < length versions.old.gv }

@@ -76,7 +76,9 @@ impl Running {
         ensures gv { versions.new.gv ≡ versions.old.gv }
     {
         let decl = &decl_in(script, self.calls.decl()).decl;
-        let completed = self.calls.take_outcome(decl, tables, self.node, self.epoch, outcome);
+        let completed = self
+            .calls
+            .take_outcome(decl, tables, self.node, self.epoch, outcome);
         raise(decl, script.micros.len(), self.node, completed, versions);
     }
 }

@@ -117,6 +117,7 @@ number-same a b e = sym (back a) ∙ (ap named e ∙ back b)
   where
     named : ℕ → Status
     named n = cond (n == 0) Done (cond (n == 2) Usage (cond (n == 3) Refused (cond (n == 4) SourceFailed (cond (n == 5) SinkFailed statuses.Memory))))
+
     back : (s : Status) → named (number s) ≡ s
     back Done = refl
     back Usage = refl

@@ -10,7 +10,7 @@ use Rattle.samoa_core.proofs.kernel.Core.go_back.Goals as goal
 pub overflow_sub-self : goal.overflow_sub-self
 overflow_sub-self g c =
     let some = some-away (fields_of c.self.inside) c.args.comp c.self.invariant
-        (at-step (fields_of c.self.inside) c.args.self.now c.args.comp c.args.micro (Step.Abandon c.args.comp) c.running.result.now c.self.view_is c.requires.due c.requires.kept c.requires.within c.running.ensures).due.enabled in
+    (at-step (fields_of c.self.inside) c.args.self.now c.args.comp c.args.micro (Step.Abandon c.args.comp) c.running.result.now c.self.view_is c.requires.due c.requires.kept c.requires.within c.running.ensures).due.enabled in
     omega (arith, some)
 
 pub note-requires : goal.note-requires

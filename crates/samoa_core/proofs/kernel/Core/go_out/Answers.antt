@@ -6,8 +6,11 @@ use Rattle.samoa_core.proofs.Keeps.{some_promised}
 use Rattle.samoa_core.proofs.kernel.Core.go_out.Goals as goal
 
 pub take-held-requires : goal.take-held-requires
-take-held-requires g c = (_, box-here (fields_of c.self.inside) c.args.comp c.args.micro _ c.self.invariant
-    (at-step (fields_of c.self.inside) c.args.self.now c.args.comp c.args.micro (Step.Enter c.args.comp c.args.micro) c.running.result.now c.self.view_is c.requires.due c.requires.kept c.requires.within c.running.ensures))
+take-held-requires g c = (
+  _,
+  box-here (fields_of c.self.inside) c.args.comp c.args.micro _ c.self.invariant
+      (at-step (fields_of c.self.inside) c.args.self.now c.args.comp c.args.micro (Step.Enter c.args.comp c.args.micro) c.running.result.now c.self.view_is c.requires.due c.requires.kept c.requires.within c.running.ensures),
+)
 
 pub overflow_add-self : goal.overflow_add-self
 overflow_add-self g c = let most = away-fits (fields_of c.self.inside) c.self.invariant in omega (arith, most)
