@@ -5,7 +5,7 @@ use Rattle.samoa_model.specs.declared.script.Script.{Script}
 use Rattle.samoa_ends.specs.Causes.{Rose}
 use Rattle.samoa_script.specs.declared.fault.ScriptFault.{ScriptFault}
 use Rattle.samoa_run.specs.Readings.{IsReading}
-use Rattle.samoa_run.specs.declared.TheConstants.{LIMIT}
+use Rattle.samoa_run.specs.declared.reading.TheConstants.{LIMIT}
 use Rattle.samoa_run.specs.declared.status.Status.{Status}
 use Rattle.samoa_run.specs.declared.status.Status.TheVariants.{Done, Refused, SourceFailed, SinkFailed, Memory}
 use Rattle.samoa_run.specs.declared.words.Order.{Order}

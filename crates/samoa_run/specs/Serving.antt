@@ -8,7 +8,7 @@ use Rattle.samoa_grammar.specs.Held.{Holds}
 use Rattle.samoa_script.specs.declared.fault.ScriptFault.{ScriptFault}
 use Rattle.samoa_run.specs.Readings.{IsFaultOf}
 use Rattle.samoa_run.specs.declared.words.Order.{Order}
-use Rattle.samoa_run.specs.declared.TheConstants.{LIMIT}
+use Rattle.samoa_run.specs.declared.reading.TheConstants.{LIMIT}
 use Rattle.samoa_run.specs.declared.status.Status.TheVariants.{Done, Refused, SourceFailed, SinkFailed, Memory}
 use Rattle.samoa_run.specs.Statuses.{number}
 use Rattle.samoa_run.specs.Due.{IsOutput, can_do, turned_away_line, fault_line}

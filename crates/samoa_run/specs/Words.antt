@@ -1,6 +1,6 @@
 -- The words of the command line, and what they ask for.
 use Rattle.std.specs.Prelude.{ℕ, ◌+◌, ◌*◌, ◌-◌, ◌==◌, Bool, true, false, ◌&&◌, not, List, [], ◌∷◌, nat_le, codes, bytes_eq, Option, Some, None, is_none, option_map, option_and_then, if◌then◌else◌}
-use Rattle.samoa_run.specs.declared.TheConstants.{CELLS, MOST_CELLS}
+use Rattle.samoa_run.specs.declared.words.TheConstants.{CELLS, MOST_CELLS}
 use Rattle.samoa_run.specs.declared.words.Numbered.{Numbered}
 use Rattle.samoa_run.specs.declared.words.Numbered.TheVariants.{Cells}
 use Rattle.samoa_run.specs.declared.words.Options.{Options}
