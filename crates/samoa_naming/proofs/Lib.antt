@@ -6,7 +6,6 @@ pub mod Defined
 pub mod Numbers
 pub mod Once
 pub mod Passed
-pub mod Positions
 pub mod Range
 pub mod Sizes
 pub mod Sound

@@ -1,10 +1,8 @@
 -- Names that are defined have numbers below the length of their list.
-use Rattle.std.proofs.Common.{◌≡◌, ℕ, ◌<◌, Bool, true, List, length, get_or, map, ltb, bytes_eq, Option, Some, None, refl, sym, subst}
+use Rattle.std.proofs.Common.{◌≡◌, ℕ, ◌<◌, true, List, length, get_or, map, bytes_eq, Option, Some, None, refl, sym, subst}
 use Rattle.std.specs.Prelude.{option_map, option_and_then, unwrap_or, is_some}
-use Rattle.std.specs.List.{list_any, position, position_or_len}
-use Rattle.std.proofs.lemmas.Bool.{ltb-true}
+use Rattle.std.specs.List.{list_any, position}
 use Rattle.std.proofs.lemmas.List.{length-map}
-use Rattle.std.proofs.lemmas.Option.{cond_some}
 use Rattle.samoa_model.specs.declared.ids.HandlerId.{HandlerId}
 use Rattle.samoa_model.specs.Allowed.{no_handler}
 use Rattle.samoa_grammar.specs.declared.draft.MicroDraft.{MicroDraft}
@@ -12,12 +10,8 @@ use Rattle.samoa_grammar.specs.Names.{micro_part, handler_part}
 use Rattle.samoa_grammar.specs.Meaning.{number_in_names, handler_names, no_micro_draft, handler_in, handler_of}
 use Rattle.samoa_grammar.specs.Passes.{among, handler_unknown}
 use Rattle.samoa_grammar.proofs.Dedup.{place_below, position_found}
+use Rattle.samoa_names.proofs.Positions.{position_within}
 use Rattle.samoa_naming.proofs.Sizes.{when_passes}
-
-pub position_within : {X : Type 0} (p : X → Bool) (xs : List X) (i : ℕ) → position p xs ≡ Some i → i < length xs
-position_within p xs i h =
-    let parts = cond_some (ltb (position_or_len p xs) (length xs)) (position_or_len p xs) i h in
-    subst (λ n. n < length xs) parts.1 (ltb-true (position_or_len p xs) (length xs) parts.0)
 
 pub number_below : (names : List (List ℕ)) (name : List ℕ) → among names name ≡ None → number_in_names names name < length names
 number_below names name h =

@@ -2,6 +2,7 @@
 use Rattle.std.proofs.Common.{◌≡◌, ℕ, ◌<◌, ◌≤◌, Bool, true, false, cond, List, get_or, codes, ltb, Some, None, refl, arith}
 use Rattle.std.specs.List.{All}
 use Rattle.std.proofs.lemmas.Bool.{ltb-true, ltb-false}
+use Rattle.std.proofs.lemmas.List.{length-map}
 use Rattle.samoa_grammar.specs.declared.fault.WalkFault.{WalkFault}
 use Rattle.samoa_grammar.specs.declared.draft.DoDraft.{DoDraft}
 use Rattle.samoa_grammar.specs.declared.draft.LossDraft.{LossDraft}
@@ -11,6 +12,8 @@ use Rattle.samoa_form.specs.Limits.{HasLimits}
 use Rattle.samoa_naming.specs.Sizes.{FitsDo, FitsLoss, FitsCrash}
 use Rattle.samoa_naming.proofs.Along.{then_none}
 use Rattle.samoa_naming.proofs.Passed.{does_inside, losses_inside, crashes_inside, ticks_inside}
+
+pub ruleset mapped_lists = (length-map)
 
 pub when_passes : (b : Bool) (f : WalkFault) → cond b None (Some f) ≡ None → b ≡ true
 when_passes true f h = refl

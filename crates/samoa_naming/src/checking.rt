@@ -20,6 +20,6 @@ pub fn check_names(alloc: Global, draft: &Draft) -> Result<(), Stop>
     ensures { Finds result (twice_fault draft.now then unknown_fault draft.now then totals_fault draft.now) }
 {
     no_doubles(draft)?;
-    all_defined(draft)?;
+    all_defined(alloc, draft)?;
     totals_within(alloc, draft)
 }

@@ -40,7 +40,7 @@ fn changes_once(draft: &Draft) -> Result<(), Stop>
 }
 
 /// That no name of a list of names stands a second time.
-#[tactic(auto, using(crate::proofs::Positions::same_names))]
+#[tactic(auto, using(samoa_names::proofs::Positions::same_names))]
 fn names_once(names: &[Name]) -> Result<(), Stop>
     ensures { Finds result (twice names.now) }
 {

@@ -35,7 +35,7 @@ fn text_place(texts: &[&str], text: &str) -> Option<usize>
 }
 
 /// The place of a text in a list.
-#[tactic(auto, using(crate::proofs::Positions::seen_lists))]
+#[tactic(auto, using(samoa_names::proofs::Positions::seen_lists))]
 fn place(texts: &[&str], text: &str) -> Option<usize>
     ensures value { result ≡ place_of (bytes_eq text.now) (map (λ t. t.now) texts.now) }
     ensures below { IfSome result (λ i. i < length texts.now) }
@@ -52,7 +52,7 @@ fn place_in_kind(kind: Kind, name: &str) -> Option<usize>
 }
 
 /// The number of a handler of a microprotocol.
-#[tactic(auto, using(crate::proofs::Positions::joined_lists), unfolding(crate::specs::Groups::handler_place))]
+#[tactic(auto, using(samoa_names::proofs::Positions::joined_lists), unfolding(crate::specs::Groups::handler_place))]
 fn index(micro: &MicroDraft, name: &str) -> Option<usize>
     requires { HasMicroLimits micro.now }
     ensures value { result ≡ handler_place micro.now name.now }

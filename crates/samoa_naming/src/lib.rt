@@ -2,6 +2,7 @@
 #![tactic(auto)]
 
 mod checking;
+mod directory;
 mod doubles;
 mod faults;
 mod handlers;

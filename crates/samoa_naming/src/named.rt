@@ -114,7 +114,7 @@ fn place<T: Named>(items: &[T], name: &str) -> Option<usize>
 }
 
 /// The place of a name among those of a list.
-#[tactic(auto, using(crate::proofs::Positions::seen_lists))]
+#[tactic(auto, using(samoa_names::proofs::Positions::seen_lists))]
 pub fn position<T: Named>(items: &[T], name: &str) -> Option<usize>
     ensures value { result ≡ place_of (bytes_eq name.now) (map T.Named.called items.now) }
     ensures below { IfSome result (λ i. i < length items.now) }
@@ -134,7 +134,7 @@ pub fn number<T: Named>(items: &[T], name: &Name) -> u32
 }
 
 /// That a name is one of a list.
-#[tactic(auto, using(crate::proofs::Positions::seen_lists))]
+#[tactic(auto, using(samoa_names::proofs::Positions::seen_lists))]
 pub fn known<T: Named>(items: &[T], name: &Name) -> Result<(), Stop>
     ensures { Finds result (first_unknown (map T.Named.called items.now) name.now) }
 {

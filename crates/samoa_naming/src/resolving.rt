@@ -8,6 +8,7 @@ ghost use Rattle.samoa_grammar.specs.Meaning.{number_in_names, micros_named, eve
 ghost use Rattle.samoa_form.specs.Limits.{HasMicroLimits, HasLimits};
 ghost use Rattle.samoa_naming.specs.Sizes.{FitsDo, FitsLoss, FitsCrash};
 
+use crate::directory::Directory;
 use crate::handlers::handler;
 use crate::named::number;
 use crate::routes::{edges_once, roots_once, vertex, vertices};
@@ -308,19 +309,19 @@ fn change_defs(alloc: Global, draft: &Draft) -> Result<Listed<ChangeDef>, NoMemo
     Ok(Listed::from_vec(found))
 }
 
-fn cause(draft: &Draft, cause: &CauseDraft) -> Cause
+fn cause(draft: &Directory, cause: &CauseDraft) -> Cause
     requires events { length draft.now.events ≤ 64 }
     requires changes { length draft.now.changes ≤ 16 }
     ensures { result ≡ cause_meant draft.now cause.now }
 {
     match cause {
-        CauseDraft::Event(name) => Cause::Event(event(draft, name)),
-        CauseDraft::Change(name) => Cause::Change(change(draft, name)),
+        CauseDraft::Event(name) => Cause::Event(draft.event(name)),
+        CauseDraft::Change(name) => Cause::Change(draft.change(name)),
     }
 }
 
 #[tactic(auto, unfolding(samoa_grammar::specs::Meaning::do_meant))]
-fn do_def(draft: &Draft, item: &DoDraft) -> DoDef
+fn do_def(draft: &Directory, item: &DoDraft) -> DoDef
     requires events { length draft.now.events ≤ 64 }
     requires changes { length draft.now.changes ≤ 16 }
     requires fits { FitsDo item.now }
@@ -334,14 +335,14 @@ fn do_def(draft: &Draft, item: &DoDraft) -> DoDef
     }
 }
 
-fn do_defs(alloc: Global, draft: &Draft) -> Result<Listed<DoDef>, NoMemory>
+fn do_defs(alloc: Global, draft: &Directory) -> Result<Listed<DoDef>, NoMemory>
     requires events { length draft.now.events ≤ 64 }
     requires changes { length draft.now.changes ≤ 16 }
     requires fits { All FitsDo draft.now.does }
     ensures { IfOk result (λ l. l ≡ map (do_meant draft.now) draft.now.does) }
 {
     let mut found = Vec::new(alloc);
-    for item in draft.does.as_slice() {
+    for item in draft.draft().does.as_slice() {
         found.push(do_def(draft, item))?;
     }
     Ok(Listed::from_vec(found))
@@ -402,7 +403,8 @@ pub fn resolve(alloc: Global, draft: &Draft) -> Result<Script, NoMemory>
     let decls = decl_defs(alloc, draft)?;
     let events = event_defs(alloc, draft)?;
     let changes = change_defs(alloc, draft)?;
-    let does = do_defs(alloc, draft)?;
+    let directory = Directory::new(alloc, draft)?;
+    let does = do_defs(alloc, &directory)?;
     let losses = loss_defs(alloc, draft.losses.as_slice())?;
     let crashes = crash_defs(alloc, draft.crashes.as_slice())?;
     Ok(Script {

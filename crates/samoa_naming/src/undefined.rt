@@ -1,13 +1,16 @@
 //! Names that aren't defined.
-ghost use Rattle.std.specs.Prelude.{◌≡◌, ◌≤◌, length, map};
+ghost use Rattle.std.specs.Prelude.{◌≡◌, ◌≤◌, length, map, Some, None, if◌then◌else◌};
 ghost use Rattle.std.specs.List.{All};
 ghost use Rattle.samoa_grammar.specs.declared.draft.BoundDraft.{BoundDraft as BoundValue};
+ghost use Rattle.samoa_grammar.specs.declared.fault.WalkFault.TheVariants.{Unknown};
 ghost use Rattle.samoa_grammar.specs.Passes.{among, micro_names, decl_names, event_names, change_names, micro_unknown, body_unknown, event_unknown, table_unknown, change_unknown, cause_unknown, unknown_fault};
 ghost use Rattle.samoa_grammar.specs.Walks.{first_along};
 ghost use Rattle.samoa_form.specs.Limits.{HasMicroLimits};
 ghost use Rattle.samoa_naming.specs.Finds.{Finds};
 ghost use Rattle.samoa_naming.specs.Groups.{edge_unknown, micros_unknown, bodies_unknown, events_unknown, changes_unknown, causes_unknown};
 
+use crate::directory::Directory;
+use crate::faults::unknown;
 use crate::handlers::{handler_known, handlers_known};
 use crate::named::{Named, known};
 use samoa_form::Stop;
@@ -16,6 +19,7 @@ use samoa_grammar::{
     TableDraft,
 };
 use samoa_model::Name;
+use std::alloc::Global;
 
 fn micro_known(draft: &Draft, name: &Name) -> Result<(), Stop>
     ensures { Finds result (among (micro_names draft.now) name.now) }
@@ -33,12 +37,6 @@ fn event_known(draft: &Draft, name: &Name) -> Result<(), Stop>
     ensures { Finds result (among (event_names draft.now) name.now) }
 {
     known(draft.events.as_slice(), name)
-}
-
-fn change_known(draft: &Draft, name: &Name) -> Result<(), Stop>
-    ensures { Finds result (among (change_names draft.now) name.now) }
-{
-    known(draft.changes.as_slice(), name)
 }
 
 #[tactic(auto, using(crate::proofs::Along::along_items))]
@@ -191,20 +189,26 @@ fn changes_known(draft: &Draft) -> Result<(), Stop>
     Ok(())
 }
 
-fn cause_known(draft: &Draft, cause: &CauseDraft) -> Result<(), Stop>
+fn known_if(is_known: bool, name: &Name) -> Result<(), Stop>
+    ensures { Finds result (if is_known then None else Some (Unknown name.now)) }
+{
+    if is_known { Ok(()) } else { Err(unknown(name)) }
+}
+
+fn cause_known(draft: &Directory, cause: &CauseDraft) -> Result<(), Stop>
     ensures { Finds result (cause_unknown draft.now cause.now) }
 {
     match cause {
-        CauseDraft::Event(name) => event_known(draft, name),
-        CauseDraft::Change(name) => change_known(draft, name),
+        CauseDraft::Event(name) => known_if(draft.has_event(name), name),
+        CauseDraft::Change(name) => known_if(draft.has_change(name), name),
     }
 }
 
 #[tactic(auto, using(crate::proofs::Along::along_items), unfolding(crate::specs::Groups::causes_unknown))]
-fn causes_known(draft: &Draft) -> Result<(), Stop>
+fn causes_known(draft: &Directory) -> Result<(), Stop>
     ensures { Finds result (causes_unknown draft.now) }
 {
-    for item in draft.does.as_slice() {
+    for item in draft.draft().does.as_slice() {
         cause_known(draft, &item.cause)?;
     }
     Ok(())
@@ -212,7 +216,7 @@ fn causes_known(draft: &Draft) -> Result<(), Stop>
 
 /// That each name that is used is defined.
 #[tactic(auto, using(crate::proofs::Groups::unknown_by_groups))]
-pub fn all_defined(draft: &Draft) -> Result<(), Stop>
+pub fn all_defined(alloc: Global, draft: &Draft) -> Result<(), Stop>
     requires few { length draft.now.micros ≤ 24 }
     requires each { All HasMicroLimits draft.now.micros }
     ensures { Finds result (unknown_fault draft.now) }
@@ -221,5 +225,6 @@ pub fn all_defined(draft: &Draft) -> Result<(), Stop>
     bodies_known(draft)?;
     events_known(draft)?;
     changes_known(draft)?;
-    causes_known(draft)
+    let directory = Directory::new(alloc, draft)?;
+    causes_known(&directory)
 }

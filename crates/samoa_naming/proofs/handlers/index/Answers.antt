@@ -5,7 +5,7 @@ use Rattle.std.proofs.lemmas.List.{length-map}
 use Rattle.samoa_model.specs.declared.script.CodeDef.{CodeDef}
 use Rattle.samoa_model.specs.Handlers.{handlers_of_kind}
 use Rattle.samoa_naming.specs.Groups.{handler_place}
-use Rattle.samoa_naming.proofs.Positions.{position_right}
+use Rattle.samoa_names.proofs.Positions.{position_right}
 use Rattle.samoa_naming.proofs.handlers.index.Goals as goal
 
 pub returns-in_ok-own-in-None-clause-value : goal.returns-in_ok-own-in-None-clause-value
