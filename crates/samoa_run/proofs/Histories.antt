@@ -31,13 +31,14 @@ items_late script range =
     (All-weaker (IsDoInRange script) (λ (item : DoDef). 1 ≤ item.tick) (λ item h. h.first) script.does range.does)
 
 -- a test before or after they are made admissions
+one_ext : (b : Bool) (x : DoDef) (exts : List Ext) (items : List DoDef) → exts ≡ map ext_of items → cond b (ext_of x ∷ exts) exts ≡ map ext_of (cond b (x ∷ items) items)
+one_ext true x exts items e = ap (λ (l : List Ext). ext_of x ∷ l) e
+one_ext false x exts items e = e
+
 filter_ext : (tick : ℕ) (items : List DoDef) → of_tick tick (map ext_of items) ≡ map ext_of (filter (λ (item : DoDef). item.tick == tick) items)
 filter_ext tick [] = refl
-filter_ext tick (x ∷ xs) = go (x.tick == tick) (filter_ext tick xs)
-  where
-    go : (b : Bool) {l : List Ext} {m : List DoDef} → l ≡ map ext_of m → cond b (ext_of x ∷ l) l ≡ map ext_of (cond b (x ∷ m) m)
-    go true e = ap (λ (l : List Ext). ext_of x ∷ l) e
-    go false e = e
+filter_ext tick (x ∷ xs) =
+    one_ext (x.tick == tick) x (of_tick tick (map ext_of xs)) (filter (λ (item : DoDef). item.tick == tick) xs) (filter_ext tick xs)
 
 -- the first ticks admit no more than the script has items
 pub few_to : (script : Script) (n : ℕ) → length (history_to script n) ≤ length script.does

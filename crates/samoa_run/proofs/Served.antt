@@ -1,7 +1,8 @@
 -- How a call of the top ends.
-use Rattle.std.proofs.Common.{◌≡◌, ◌⊎◌, ℕ, Bool, true, false, cond, ◌==◌, ◌≤◌, ◌<◌, List, ◌++◌, length, None, Some, Result, Ok, Err, refl, sym, ap, ◌∙◌, subst, inl, inr, arith, append-nil, length-append, rules}
+use Rattle.std.proofs.Common.{◌≡◌, ◌⊎◌, ℕ, Bool, true, false, cond, ◌==◌, ◌≤◌, ◌<◌, List, [], ◌++◌, length, None, Some, Result, Ok, Err, refl, sym, ap, ◌∙◌, subst, inl, inr, arith, append-nil, length-append, rules}
 use Rattle.std.specs.declared.option.Option.{Option}
 use Rattle.std.specs.Io.KnownBytes.{Appends, Consumes, IsAtEnd}
+use Rattle.std.proofs.KnownBytes.{Appends-nil}
 use Rattle.samoa_model.specs.declared.script.Script.{Script}
 use Rattle.samoa_ends.specs.Pieces.{AppendsPrefix}
 use Rattle.samoa_grammar.specs.Held.{IsTooLong}
@@ -14,7 +15,9 @@ use Rattle.samoa_run.specs.declared.status.Status.TheVariants as statuses
 use Rattle.samoa_run.specs.declared.status.Status.TheVariants.{Done, Usage, Refused, SourceFailed, SinkFailed}
 use Rattle.samoa_run.specs.declared.words.Order.{Order}
 use Rattle.samoa_run.specs.Statuses.{number}
-use Rattle.samoa_run.specs.Due.{IsAnswerTo, IsOutput, IsTreated, can_do, due_status, is_memory, status_if, turned_away_line}
+use Rattle.samoa_run.specs.declared.words.Order.TheVariants.{Run, Serial, Check}
+use Rattle.samoa_serial.specs.Report.{report}
+use Rattle.samoa_run.specs.Due.{IsAnswerTo, IsOutput, IsTreated, can_do, canonical_text, due_status, fault_line, is_memory, status_if, turned_away_line}
 use Rattle.samoa_run.specs.Serving.{Answers, AnswersOne, IsDueOrFailed}
 
 -- what was read is the input, where that is no longer than the limit
@@ -151,15 +154,15 @@ the_one {old = old} {new = new} text answers =
     }
 
 -- a script that can be treated as ordered, and one that can't
-pub treats : {order : Order} {script : Script} {old new : Option (List ℕ)} {status : ℕ} (text : List ℕ) → can_do order script ≡ true → IsOutput order script text
+pub treats : (order : Order) (script : Script) {old new : Option (List ℕ)} {status : ℕ} (text : List ℕ) → can_do order script ≡ true → IsOutput order script text
     → Answers (number Done) text old new status → AnswersOne (due_status order (Ok script)) (IsAnswerTo order (Ok script)) old new status
-treats {order = order} {script = script} {old = old} {new = new} {status = status} text can is answers =
+treats order script {old = old} {new = new} {status = status} text can is answers =
     let F : Bool → Type 0 = λ b. AnswersOne (status_if b) (IsTreated b order script) old new status in
     subst F (sym can) (one_of text is answers)
 
-pub turns_away : {order : Order} {script : Script} {old new : Option (List ℕ)} {status : ℕ} (text : List ℕ) → can_do order script ≡ false → text ≡ turned_away_line order script
+pub turns_away : (order : Order) (script : Script) {old new : Option (List ℕ)} {status : ℕ} (text : List ℕ) → can_do order script ≡ false → text ≡ turned_away_line order script
     → Answers (number Refused) text old new status → AnswersOne (due_status order (Ok script)) (IsAnswerTo order (Ok script)) old new status
-turns_away {order = order} {script = script} {old = old} {new = new} {status = status} text can is answers =
+turns_away order script {old = old} {new = new} {status = status} text can is answers =
     let F : Bool → Type 0 = λ b. AnswersOne (status_if b) (IsTreated b order script) old new status in
     subst F (sym can) (one_of text is answers)
 
@@ -198,3 +201,35 @@ answers_memory due text old new low p =
       source_failed = λ e. absurd (omega arith);
       no_other = inr (inr (inr refl));
     }
+
+-- some text may be written for what was read
+some_output : (order : Order) (script : Script) → (text : List ℕ) × IsOutput order script text
+some_output (Run cells calls) script = (report script calls, refl)
+some_output (Serial calls) script = (report script calls, refl)
+some_output Check script = (canonical_text script, refl)
+
+some_treated : (b : Bool) (order : Order) (script : Script) → (text : List ℕ) × IsTreated b order script text
+some_treated true order script = some_output order script
+some_treated false order script = (turned_away_line order script, refl)
+
+some_answer : (order : Order) (found : Result Script ScriptFault) → (text : List ℕ) × IsAnswerTo order found text
+some_answer order (Ok script) = some_treated (can_do order script) order script
+some_answer order (Err fault) = (fault_line fault, refl)
+
+low_if : (b : Bool) → status_if b < 4
+low_if true = omega arith
+low_if false = omega arith
+
+due_low : (order : Order) (found : Result Script ScriptFault) → due_status order found < 4
+due_low order (Ok script) = low_if (can_do order script)
+due_low order (Err fault) = omega arith
+
+nothing_yet : (old : Option (List ℕ)) (text : List ℕ) → AppendsPrefix old old text
+nothing_yet old text = record { piece = []; appended = Appends-nil old; prefix = record { rest = text; whole = refl } }
+
+-- there was no memory to read
+pub unread : (order : Order) (found : Result Script ScriptFault) (old : Option (List ℕ))
+    → AnswersOne (due_status order found) (IsAnswerTo order found) old old (number statuses.Memory)
+unread order found old =
+    let some = some_answer order found in
+    one_of some.0 some.1 (answers_memory (due_status order found) some.0 old old (due_low order found) (nothing_yet old some.0))

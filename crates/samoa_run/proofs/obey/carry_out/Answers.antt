@@ -6,7 +6,7 @@ use Rattle.samoa_run.specs.declared.status.Status.TheVariants.{SinkFailed, Memor
 use Rattle.samoa_run.specs.Statuses.{number}
 use Rattle.samoa_run.specs.Due.{IsAnswerTo, due_status, fault_line}
 use Rattle.samoa_run.specs.Serving.{AnswersOne, IsDueOrFailed}
-use Rattle.samoa_run.proofs.Served.{same_reading, reading_of_input, later_status, refused_status, due_refused, not_memory, one_of}
+use Rattle.samoa_run.proofs.Served.{same_reading, reading_of_input, later_status, refused_status, due_refused, not_memory, one_of, unread}
 use Rattle.samoa_run.proofs.obey.carry_out.Goals as goal
 
 pub returns-in-Ok-read_script-clause-written : goal.returns-in-Ok-read_script-clause-written
@@ -51,3 +51,11 @@ returns-clause-refused_only g c =
     let fails : IsFaultOf c.deref.result.now c.in-Err.fault = (c.in-Err.ensures.fault, not_memory c.in-Err.fault (cc)) in
     let here = reading_of_input _ _ input c.in-Ok.bytes.items c.deref.result.now (Err c.in-Err.fault) left c.in-Ok.ensures.read c.in-Ok.ensures.whole c.deref.ensures.value fails in
     (Err c.in-Err.fault, (here, refl))
+
+pub returns-in-Err-Memory-clause-written : goal.returns-in-Err-Memory-clause-written
+returns-in-Err-Memory-clause-written g c =
+    λ input found left reading. unread c.args.order found (g.K.Sink.written c.args.sink.now)
+
+pub returns-in-Err-clause-written : goal.returns-in-Err-clause-written
+returns-in-Err-clause-written g c =
+    λ input found left reading. unread c.args.order found (g.K.Sink.written c.args.sink.now)
