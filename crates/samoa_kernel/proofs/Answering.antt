@@ -1,8 +1,7 @@
 -- What the steps in a core show of an answer.
-use Rattle.std.proofs.Common.{arith, ◌≡◌, ◌⊎◌, inl, inr, ℕ, zero, suc, ◌+◌, ◌-◌, ◌<◌, ◌≤◌, length, Bool, true, false, Option, Some, None, refl, ap, sym, ◌∙◌, subst}
+use Rattle.std.proofs.Common.{arith, ◌≡◌, ℕ, zero, suc, ◌+◌, ◌-◌, ◌<◌, ◌≤◌, length, Bool, true, false, Option, Some, None, refl, ap, sym, ◌∙◌, subst}
 use Rattle.std.specs.Prelude.{IsTrue, ◌↔◌}
 use Rattle.samoa_model.specs.Range.{IsExtOf, IsInRange}
-use Rattle.samoa_model.specs.declared.handler.Moment.{Moment}
 use Rattle.samoa_model.specs.declared.record.Step.{Step}
 use Rattle.samoa_serial.specs.declared.call.Call.{Call}
 use Rattle.samoa_serial.specs.Alone.{next_step}
@@ -27,14 +26,20 @@ use Rattle.samoa_kernel.specs.Boards.{IsAtPoint, IsBusy, begun}
 use Rattle.samoa_kernel.specs.declared.board.Entered.{Entered}
 use Rattle.samoa_kernel.specs.Answers.{IsAnswer, IsExact}
 
--- a handler step that has begun was due, and its box is at its serial point
-pub due_there : (t : Trace) (turn : Going) (micro : ℕ) → IsRun t → IsDue t (Step.Enter turn.comp micro) → IsAway (begun t turn) turn → IsDue t (Step.Enter turn.comp turn.micro)
+-- a handler step that has begun was due at its microprotocol, and its box is at its serial point
+due_there : (t : Trace) (turn : Going) (micro : ℕ) → IsRun t → IsDue t (Step.Enter turn.comp micro) → IsAway (begun t turn) turn → IsDue t (Step.Enter turn.comp turn.micro)
 due_there t turn micro run due gone =
     let next = due.enabled.next in
     let same : (state (begun t turn)).comp (turn.comp - 1) ≡ (state t).comp (turn.comp - 1) = ap (λ (x : model.Core). x.comp (turn.comp - 1)) (state-step t (Step.Enter turn.comp turn.micro) run) in
     let call : next.call ≡ gone.next.call = same-call (next_step ((state t).comp (turn.comp - 1))) next.call gone.next.call next.moment turn.moment next.next (ap next_step (sym same) ∙ gone.next.next) in
     let at : micro ≡ turn.micro = sym next.is_at ∙ (ap (λ (c : Call). c.handler.micro.0) call ∙ gone.next.is_at) in
     subst (λ (p : ℕ). IsDue t (Step.Enter turn.comp p)) at due
+
+pub begun_due : (t u : Trace) (turn : Going) (comp micro : ℕ) → IsRun t → turn.comp ≡ comp → u ≡ with_step t (Step.Enter comp turn.micro) → IsAway u turn → IsDue t (Step.Enter comp micro)
+    → IsDue t (Step.Enter turn.comp turn.micro) × IsAway (begun t turn) turn
+begun_due t u turn comp micro run is step gone due =
+    let there : IsAway (begun t turn) turn = subst (λ (x : Trace). IsAway x turn) (step ∙ ap (λ (k : ℕ). with_step t (Step.Enter k turn.micro)) (sym is)) gone in
+    (due_there t turn micro run (subst (λ (k : ℕ). IsDue t (Step.Enter k micro)) (sym is) due) there, there)
 
 pub at_point : (t : Trace) (turn : Going) → IsRun t → IsDue t (Step.Enter turn.comp turn.micro) → IsAway (begun t turn) turn → IsAtPoint t turn
 at_point t turn run due gone =

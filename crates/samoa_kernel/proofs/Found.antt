@@ -1,6 +1,5 @@
 -- What a call finds in the turnstile, and what it may put back.
-use Rattle.std.proofs.Common.{◌≡◌, ℕ, suc, ◌-◌, ◌<◌, List, [], ◌∷◌, ◌++◌, length, true, false, Option, Some, None, refl, ap, sym, ◌∙◌, subst, append_assoc, append-nil}
-use Rattle.std.specs.List.{All}
+use Rattle.std.proofs.Common.{◌≡◌, ℕ, ◌-◌, List, [], ◌∷◌, ◌++◌, length, true, false, Option, Some, None, refl, ap, sym, ◌∙◌, subst, append_assoc, append-nil}
 use Rattle.std.proofs.lemmas.Bool.{not-true}
 use Rattle.std.proofs.lemmas.List.Elements.{All-append, All-weaker}
 use mathlib.Core.List.{IsPrefix}
@@ -9,7 +8,7 @@ use Rattle.samoa_serial.specs.State.{State}
 use Rattle.samoa_serial.specs.Alone.{next_step}
 use Rattle.samoa_invariant.specs.Picking.{IsOutTo, StaysOut}
 use Rattle.samoa_invariant.specs.Settling.{IsEnd, IsRelease, Settles, with_steps}
-use Rattle.samoa_invariant.specs.Runs.{IsRun, Trace, play, state, with_step}
+use Rattle.samoa_invariant.specs.Runs.{IsRun, Trace, play, with_step}
 use Rattle.samoa_invariant.proofs.representation.Due.{with-both, with-more}
 use Rattle.samoa_invariant.proofs.representation.Standing.{stays_out}
 use Rattle.samoa_core.specs.Places.{seen_in}
@@ -44,13 +43,23 @@ taken_out old mid t u is fixed grown hand kept run =
 pub finds : (old mid : BoardSeat) (t : Trace) → IsTaken old mid t → Finds old t
 finds old mid t at = record { basis = at.fixed; grown = at.grown; run = at.run }
 
+-- what a put leaves with the seat: the core that was put back
+pub record IsPut (mid new : BoardSeat) (u : Trace) : Type 0 where
+  pub fixed : fixed_of new ≡ fixed_of mid
+  pub seen : seen_by new ≡ u.journal
+  pub hand : IsHandAfter is_open (hand_of mid) (list_at_take mid) u.journal (hand_of new)
+
+pub put_back : (mid new : BoardSeat) (u : Trace) → view new ≡ record (view mid) { seen = u.journal; noted = None; hand = hand_of new } → seen_by new ≡ u.journal
+    → IsHandAfter is_open (hand_of mid) (list_at_take mid) u.journal (hand_of new) → IsPut mid new u
+put_back mid new u kept seen hand = record { fixed = ap (λ (v : View Basis Step). v.fixed) kept; seen = seen; hand = hand }
+
 hand_kept : (old mid : BoardSeat) (t : Trace) → IsTaken old mid t → hand_of mid ≡ hand_of old
 hand_kept old mid t at = ap (λ (v : View Basis Step). v.hand) at.kept
 
 list_kept : (old mid : BoardSeat) (t : Trace) → IsTaken old mid t → list_at_take mid ≡ t.journal
 list_kept old mid t at = ap (λ (v : View Basis Step). list_or v.noted) at.kept
 
-pub fixed_kept : (old mid : BoardSeat) (t : Trace) → IsTaken old mid t → fixed_of mid ≡ fixed_of old
+fixed_kept : (old mid : BoardSeat) (t : Trace) → IsTaken old mid t → fixed_of mid ≡ fixed_of old
 fixed_kept old mid t at = ap (λ (v : View Basis Step). v.fixed) at.kept
 
 -- a core is what is fixed of it and its journal
@@ -105,6 +114,12 @@ in_hand old mid t turn at h = (length h.before.journal, h.hand, subst (λ (u : T
         held_now h.before turn (h.seen.0 ++ at.grown.0) (subst IsRun (sym same) at.run) h.away
         (subst (λ (l : List Step). is_open l (length h.before.journal) ≡ true) (sym steps) (at.hand (length h.before.journal) h.hand))
 
+basis_after : {B : Type 0} (t : Trace) (answer : Entered B) → basis_of (after t answer) ≡ basis_of t
+basis_after t (Entered.Work turn) = refl
+basis_after t (Entered.Busy out) = refl
+basis_after t Entered.AllEnded = refl
+basis_after t Entered.Stopped = refl
+
 -- what may be put back, from plain lists to the views of a seat
 module _ (old mid : BoardSeat) (t u : Trace) (at : IsTaken old mid t) where
   grown_at : (hand : Option ℕ) → hand_of old ≡ hand → IsGrown is_open hand t.journal u.journal → IsGrown is_open (hand_of mid) (list_at_take mid) u.journal
@@ -135,10 +150,13 @@ module _ (old mid : BoardSeat) (t u : Trace) (at : IsTaken old mid t) where
         (subst (IsGrown is_open (Some held.0) t.journal) (sym journal_is)
         (grown_closed t.journal held.0 ys held.2.at closes_held (λ l other e. one_open t at.run l held.0 other held.2.at e)))
 
-    pub closed_hand : (after : Option ℕ) → IsHandAfter is_open (hand_of mid) (list_at_take mid) u.journal after → after ≡ None
+    closed_hand : (after : Option ℕ) → IsHandAfter is_open (hand_of mid) (list_at_take mid) u.journal after → after ≡ None
     closed_hand after h2 =
         hand_closed t.journal held.0 ys held.2.at closes_held after
         (subst (λ (l : List Step). IsHandAfter is_open (Some held.0) t.journal l after) journal_is (hand_at (Some held.0) after held.1 h2))
+
+    pub closed_shows : (new : BoardSeat) → IsPut mid new u → IsRun u → Shows new u None
+    closed_shows new put run = record { basis = put.fixed ∙ closed_fixed; seen = put.seen; hand = closed_hand (hand_of new) put.hand; run = run }
 
   -- an answer of `enter`
   module _ {B : Type 0} (empty : hand_of old ≡ None) where
@@ -149,18 +167,20 @@ module _ (old mid : BoardSeat) (t u : Trace) (at : IsTaken old mid t) where
     entered_grown Entered.AllEnded is = grown_at None empty (subst (λ (x : Trace). IsGrown is_open None t.journal x.journal) (sym is) (grown_same t.journal))
     entered_grown Entered.Stopped is = grown_at None empty (subst (λ (x : Trace). IsGrown is_open None t.journal x.journal) (sym is) (grown_same t.journal))
 
-    pub entered_hand : (answer : Entered B) → u ≡ after t answer → (hand : Option ℕ) → IsHandAfter is_open (hand_of mid) (list_at_take mid) u.journal hand → hand ≡ hand_after t answer
+    entered_hand : (answer : Entered B) → u ≡ after t answer → (hand : Option ℕ) → IsHandAfter is_open (hand_of mid) (list_at_take mid) u.journal hand → hand ≡ hand_after t answer
     entered_hand (Entered.Work turn) is hand h =
         hand_entered t.journal turn.comp turn.micro hand (subst (λ (x : Trace). IsHandAfter is_open None t.journal x.journal hand) is (hand_at None hand empty h))
     entered_hand (Entered.Busy out) is hand h = hand_same t.journal hand (subst (λ (x : Trace). IsHandAfter is_open None t.journal x.journal hand) is (hand_at None hand empty h))
     entered_hand Entered.AllEnded is hand h = hand_same t.journal hand (subst (λ (x : Trace). IsHandAfter is_open None t.journal x.journal hand) is (hand_at None hand empty h))
     entered_hand Entered.Stopped is hand h = hand_same t.journal hand (subst (λ (x : Trace). IsHandAfter is_open None t.journal x.journal hand) is (hand_at None hand empty h))
 
-pub basis_after : {B : Type 0} (t : Trace) (answer : Entered B) → basis_of (after t answer) ≡ basis_of t
-basis_after t (Entered.Work turn) = refl
-basis_after t (Entered.Busy out) = refl
-basis_after t Entered.AllEnded = refl
-basis_after t Entered.Stopped = refl
+    pub entered_shows : (answer : Entered B) → u ≡ after t answer → (new : BoardSeat) → IsPut mid new u → IsRun u → Shows new (after t answer) (hand_after t answer)
+    entered_shows answer is new put run = record {
+      basis = put.fixed ∙ (fixed_kept old mid t at ∙ (at.fixed ∙ ap Some (sym (basis_after t answer))));
+      seen = put.seen ∙ ap (λ (x : Trace). x.journal) is;
+      hand = entered_hand answer is (hand_of new) put.hand;
+      run = subst IsRun is run;
+    }
 
 -- an answer only adds to the journal
 pub more_after : {B : Type 0} (t : Trace) (answer : Entered B) → IsPrefix t.journal (after t answer).journal

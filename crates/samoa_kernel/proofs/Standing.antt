@@ -1,5 +1,5 @@
 -- What is open in a journal is out in its core, and the other way round.
-use Rattle.std.proofs.Common.{arith, ◌≡◌, ◌≢◌, ◌⊎◌, inl, inr, ℕ, zero, suc, ◌+◌, ◌-◌, ◌<◌, ◌≤◌, List, [], ◌∷◌, ◌++◌, ◌==◌, ◌||◌, length, get_or, Bool, true, false, Option, Some, None, refl, ap, sym, ◌∙◌, subst, append_assoc, length-append, ne_eqb, if◌then◌else◌}
+use Rattle.std.proofs.Common.{arith, ◌≡◌, ◌≢◌, ◌⊎◌, inl, inr, ℕ, zero, suc, ◌-◌, ◌<◌, ◌≤◌, List, [], ◌∷◌, ◌++◌, ◌==◌, ◌||◌, length, Bool, true, false, Option, Some, None, refl, ap, sym, ◌∙◌, subst, append_assoc, length-append, ne_eqb, if◌then◌else◌}
 use Rattle.std.specs.List.{All}
 use Rattle.std.proofs.Math.Seq.{get_or-append_seam}
 use Rattle.std.proofs.lemmas.Bool.{cases_Bool, cases_lt}
@@ -15,7 +15,7 @@ use Rattle.samoa_invariant.specs.Picking.{IsEnterOf, IsOutTo, StaysOut}
 use Rattle.samoa_invariant.specs.Settling.{with_steps}
 use Rattle.samoa_invariant.specs.State as model
 use Rattle.samoa_invariant.specs.State.{Core, NothingOut}
-use Rattle.samoa_invariant.specs.Runs.{CanMake, IsRun, IsRunFrom, Trace, after_step, clear_at, cleared, is_clear, play, run_from, state, with_step}
+use Rattle.samoa_invariant.specs.Runs.{CanMake, IsRun, IsRunFrom, Trace, after_step, clear_at, cleared, is_clear, play, run_from, state}
 use Rattle.samoa_invariant.proofs.refinement.Ends.{reached_keeps}
 use Rattle.samoa_invariant.proofs.representation.Journals.{run_reached}
 use Rattle.samoa_invariant.proofs.representation.Standing.{enters_once, stays_out}

@@ -1,4 +1,4 @@
-use Rattle.std.proofs.Common.{◌≡◌, ◌∙◌, Option, Some, None, true, sym, subst}
+use Rattle.std.proofs.Common.{◌≡◌, ◌∙◌, Some, None, true, sym, subst}
 use Rattle.samoa_invariant.specs.Runs.{Trace}
 use Rattle.samoa_turnstile.specs.Seats.{hand_of}
 use Rattle.samoa_kernel.specs.Opens.{is_open}

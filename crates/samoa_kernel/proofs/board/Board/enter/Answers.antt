@@ -1,13 +1,9 @@
-use Rattle.std.proofs.Common.{◌≡◌, ◌∙◌, Some, ap, sym, subst, append-nil, []}
-use Rattle.samoa_model.specs.declared.record.Step.{Step}
-use Rattle.samoa_invariant.specs.Runs.{IsRun, Trace}
-use Rattle.samoa_turnstile.specs.declared.view.View.{View}
-use Rattle.samoa_turnstile.specs.Seats.{fixed_of, hand_of}
-use Rattle.samoa_kernel.specs.declared.basis.Basis.{Basis}
+use Rattle.std.proofs.Common.{◌∙◌, sym, append-nil, []}
+use Rattle.samoa_invariant.specs.Runs.{Trace}
 use Rattle.samoa_kernel.specs.declared.board.Entered.{Entered}
 use Rattle.samoa_kernel.specs.Boards.{BoardSeat, IsInHand, begun}
 use Rattle.samoa_kernel.specs.Answers.{HasEntered, IfWork, after, hand_after}
-use Rattle.samoa_kernel.proofs.Found.{IsTaken, basis_after, entered_grown, entered_hand, finds, fixed_kept, more_after, seen_since, taken_out}
+use Rattle.samoa_kernel.proofs.Found.{IsPut, IsTaken, entered_grown, entered_shows, finds, more_after, put_back, seen_since, taken_out}
 use Rattle.samoa_kernel.proofs.Answering.{exact_is}
 use Rattle.samoa_kernel.proofs.board.Board.enter.Goals as goal
 
@@ -36,21 +32,17 @@ returns-clause-step g c =
     let t : Trace = c.into_core-core.result in
     let u : Trace = c.answered-kernel.result.0 in
     let answer : Entered g.row.B.Denot = c.answered-kernel.result.1 in
+    let mid : BoardSeat = c.take.new.seat in
+    let new : BoardSeat = c.put.new.seat in
     let take = c.take.ensures in
-    let found : IsTaken c.args.seat.now c.take.new.seat t =
-    taken_out c.args.seat.now c.take.new.seat c.take.result t c.into_core-core.ensures.core take.fixed take.grown take.hand take.kept c.answered-kernel.ensures.run.0 in
-    let fixed : fixed_of c.put.new.seat ≡ fixed_of c.args.seat.now =
-    ap (λ (v : View Basis Step). v.fixed) c.put.ensures.kept ∙ fixed_kept c.args.seat.now c.take.new.seat t found in record {
+    let found : IsTaken c.args.seat.now mid t =
+    taken_out c.args.seat.now mid c.take.result t c.into_core-core.ensures.core take.fixed take.grown take.hand take.kept c.answered-kernel.ensures.run.0 in
+    let put : IsPut mid new u = put_back mid new u c.put.ensures.kept c.put.ensures.seen c.put.ensures.hand in record {
       found = t;
-      finds = finds c.args.seat.now c.take.new.seat t found;
+      finds = finds c.args.seat.now mid t found;
       right = c.answered-kernel.ensures.right;
       exact = exact_is t answer c.answered-kernel.ensures.right;
-      shows = record {
-        basis = fixed ∙ (found.fixed ∙ ap Some (sym (basis_after t answer)));
-        seen = c.put.ensures.seen ∙ ap (λ (x : Trace). x.journal) c.answered-kernel.ensures.after;
-        hand = entered_hand c.args.seat.now c.take.new.seat t u found c.requires.hand answer c.answered-kernel.ensures.after (hand_of c.put.new.seat) c.put.ensures.hand;
-        run = subst IsRun c.answered-kernel.ensures.after c.answered-kernel.ensures.run.1;
-      };
+      shows = entered_shows c.args.seat.now mid t u found c.requires.hand answer c.answered-kernel.ensures.after new put c.answered-kernel.ensures.run.1;
     }
 
 pub returns-clause-turn : goal.returns-clause-turn
