@@ -1,0 +1,4 @@
+pub mod Opening
+pub mod Standing
+pub mod Found
+pub mod Answering

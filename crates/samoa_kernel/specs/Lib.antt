@@ -1,0 +1,4 @@
+pub mod Opens
+pub mod Bases
+pub mod Boards
+pub mod Answers
