@@ -8,7 +8,9 @@ use std::alloc::Global;
 use std::test::Fail;
 
 fn one<T: Drop>(alloc: Global, item: T) -> Result<Listed<T>, NoMemory> {
-    Ok(Listed::from_vec(Vec::from_array(alloc, [item])?))
+    let mut items = Vec::new(alloc);
+    items.push(item)?;
+    Ok(Listed::from_vec(items))
 }
 
 fn none<T>(alloc: Global) -> Listed<T> {
@@ -47,10 +49,13 @@ fn small_script(alloc: Global) -> Result<Script, NoMemory> {
         event: EventId(0),
         table: none(alloc),
     };
+    let mut micros = Vec::new(alloc);
+    micros.push(micro)?;
+    micros.push(link)?;
     Ok(Script {
         nodes: 2,
         ticks: 10,
-        micros: Listed::from_vec(Vec::from_array(alloc, [micro, link])?),
+        micros: Listed::from_vec(micros),
         decls: none(alloc),
         events: one(alloc, event)?,
         changes: one(alloc, change)?,
