@@ -6,7 +6,7 @@ ghost use Rattle.samoa_micro.specs.Covers.{count_of};
 use crate::serve_boxes;
 use samoa_ends::{MemSink, MemSource};
 use samoa_micro::Micro;
-use samoa_model::NoMemory;
+use samoa_model::{Kind, Moment, NoMemory, Outcome, Setup, Words};
 use samoa_prog::Prog;
 use std::alloc::Global;
 use std::marker::Send;
@@ -25,19 +25,57 @@ const LINES: [&str; 5] = [
     "N 1 1 0\n",
 ];
 
-/// As many scripted microprotocols as a script can take.
-fn boxes(alloc: Global) -> Result<Vec<Prog>, NoMemory>
-    ensures fresh { IfOk result (λ boxes. All (λ b. (⟦<Prog as Micro>⟧.seen b).fresh ≡ true) boxes.items) }
-    ensures enough { IfOk result (λ boxes. 32 ≤ count_of (map (λ b. (⟦<Prog as Micro>⟧.seen b).kind) boxes.items) ProgKind) }
+/// A scripted microprotocol that makes so many handler steps, and finds no memory for the next.
+#[derive(Drop)]
+struct Faint {
+    prog: Prog,
+    left: u32,
+}
+
+impl Micro for Faint {
+    ghost seen = { λ f. ⟦<Prog as Micro>⟧.seen f.prog };
+
+    fn kind(&self) -> Kind {
+        self.prog.kind()
+    }
+
+    fn set_up(&mut self, alloc: Global, setup: &Setup) -> Result<(), NoMemory> {
+        self.prog.set_up(alloc, setup)
+    }
+
+    fn step(&mut self, alloc: Global, moment: &Moment) -> Result<Outcome, NoMemory> {
+        if self.left == 0 {
+            return Err(NoMemory);
+        }
+        self.left -= 1;
+        self.prog.step(alloc, moment)
+    }
+
+    fn show(&self) -> Words {
+        self.prog.show()
+    }
+}
+
+/// As many microprotocols as a script can take, each of which makes so many handler steps.
+fn boxes(alloc: Global, steps: u32) -> Result<Vec<Faint>, NoMemory>
+    ensures fresh { IfOk result (λ boxes. All (λ b. (⟦<Faint as Micro>⟧.seen b).fresh ≡ true) boxes.items) }
+    ensures enough { IfOk result (λ boxes. 32 ≤ count_of (map (λ b. (⟦<Faint as Micro>⟧.seen b).kind) boxes.items) ProgKind) }
 {
     let mut boxes = Vec::new(alloc);
     while boxes.len() < 32 {
-        boxes.push(Prog::new(alloc))?;
+        boxes.push(Faint {
+            prog: Prog::new(alloc),
+            left: steps,
+        })?;
     }
     Ok(boxes)
 }
 
-/// The status for these words, and what is written. The reads and writes of these numbers fail.
+/// More handler steps than a test makes.
+const ENOUGH: u32 = 1000;
+
+/// The status for these words, and what is written. The reads and writes of these numbers fail, and each microprotocol
+/// makes so many handler steps.
 fn answer<R: Wait + Threads + Sync>(
     rt: &R,
     alloc: Global,
@@ -45,6 +83,7 @@ fn answer<R: Wait + Threads + Sync>(
     input: &str,
     reads: &[u64],
     writes: &[u64],
+    steps: u32,
 ) -> Result<(u8, Vec<u8>), NoMemory> {
     let mut asked = Vec::new(alloc);
     for word in words {
@@ -53,7 +92,8 @@ fn answer<R: Wait + Threads + Sync>(
     let bytes = Vec::from_slice(alloc, input.as_bytes())?;
     let mut source = MemSource::new(bytes, Vec::from_slice(alloc, reads)?);
     let mut sink = MemSink::new(alloc, 4096, Vec::from_slice(alloc, writes)?)?;
-    let status = serve_boxes(rt, alloc, &asked, &mut source, &mut sink, boxes(alloc)?);
+    let boxes = boxes(alloc, steps)?;
+    let status = serve_boxes(rt, alloc, &asked, &mut source, &mut sink, boxes);
     Ok((status, Vec::from_slice(alloc, sink.bytes())?))
 }
 
@@ -93,7 +133,7 @@ fn answers_words(rt: HostRuntime) -> Result<(), Fail> {
         ),
     ];
     for (words, input, status, text) in cases {
-        let (found, written) = answer(&rt, alloc, words, input, &[], &[])?;
+        let (found, written) = answer(&rt, alloc, words, input, &[], &[], ENOUGH)?;
         assert_eq!(rt; found, status);
         assert_eq!(rt; written.as_slice(), text.as_bytes());
     }
@@ -106,7 +146,15 @@ fn stops_at_a_failed_write(rt: HostRuntime) -> Result<(), Fail> {
     let alloc = rt.alloc();
     let mut wanted = Vec::new(alloc);
     for (n, line) in LINES.iter().enumerate() {
-        let (status, written) = answer(&rt, alloc, &["run"], COUNTER, &[], &[n as u64 + 1])?;
+        let (status, written) = answer(
+            &rt,
+            alloc,
+            &["run"],
+            COUNTER,
+            &[],
+            &[n as u64 + 1],
+            ENOUGH,
+        )?;
         assert_eq!(rt; status, 5);
         assert_eq!(rt; written.as_slice(), wanted.as_slice());
         wanted.extend_from_slice(line.as_bytes())?;
@@ -119,9 +167,34 @@ fn stops_at_a_failed_write(rt: HostRuntime) -> Result<(), Fail> {
 fn stops_at_a_failed_read(rt: HostRuntime) -> Result<(), Fail> {
     let alloc = rt.alloc();
     for (n, status) in [(1, 4), (2, 4), (3, 0)] {
-        let (found, written) = answer(&rt, alloc, &["run"], COUNTER, &[n], &[])?;
+        let (found, written) = answer(&rt, alloc, &["run"], COUNTER, &[n], &[], ENOUGH)?;
         assert_eq!(rt; found, status);
         assert_eq!(rt; written.is_empty(), status == 4);
+    }
+    Ok(())
+}
+
+/// The same counter with two events.
+const TWICE: &str =
+    r#"{"version":1,"nodes":1,"ticks":1,"micros":[{"name":"c","kind":"prog","handlers":[{"name":"h","code":[["add","r0","x0"],["copy","x0","r0"],["deliver",1],["done",1]]}]}],"decls":[{"name":"d","form":"set","micros":["c"]}],"events":[{"name":"e","decl":"d","handlers":["c.h"]}],"do":[{"tick":1,"node":0,"event":"e","args":[1]},{"tick":1,"node":0,"event":"e","args":[1]}]}"#;
+
+/// The third handler step finds no memory: what was written before is all that is written, and that is what ended in an
+/// earlier part.
+#[test]
+fn stops_where_a_step_finds_no_memory(rt: HostRuntime) -> Result<(), Fail> {
+    let alloc = rt.alloc();
+    let cases: [(&[&str], &str); 3] = [
+        (&["run"], ""),
+        (
+            &["run", "--cells", "528"],
+            "E 1 1 0 e 1\nD 1 c 1\nZ 1 ok 1\n",
+        ),
+        (&["serial"], "E 1 1 0 e 1\nD 1 c 1\nZ 1 ok 1\n"),
+    ];
+    for (words, text) in cases {
+        let (status, written) = answer(&rt, alloc, words, TWICE, &[], &[], 2)?;
+        assert_eq!(rt; status, 6);
+        assert_eq!(rt; written.as_slice(), text.as_bytes());
     }
     Ok(())
 }

@@ -7,33 +7,13 @@ use Rattle.samoa_model.specs.declared.record.Entry.{Entry}
 use Rattle.samoa_model.specs.declared.ids.HandlerId.{HandlerId}
 use Rattle.samoa_model.specs.Allowed.{handlers_at}
 use Rattle.samoa_model.specs.Entries.{calls_at, calls_made}
+use Rattle.samoa_model.proofs.Counts.{calls_at-append, handlers_at-snoc}
 use Rattle.samoa_serial.specs.World.{calls_from, entry_of}
+use Rattle.samoa_serial.proofs.Lengths.{calls_at-entered}
 use Rattle.samoa_calls.specs.Tried.{AreAdded, Counts, HasRoomFor}
-
-abbrev one_at : HandlerId → ℕ → ℕ
-one_at h p = cond (h.micro.0 == p) 1 0
-
-handlers_at-cons : (h : HandlerId) (hs : List HandlerId) (p : ℕ) → handlers_at (h ∷ hs) p ≡ one_at h p + handlers_at hs p
-handlers_at-cons h hs p =
-    sum_by-append (λ (x : HandlerId). cond (x.micro.0 == p) 1 0) (h ∷ []) hs
-    ∙ ap (λ (n : ℕ). n + handlers_at hs p) (zero-add (cond (h.micro.0 == p) 1 0))
-
-handlers_at-push : (hs : List HandlerId) (h : HandlerId) (p : ℕ) → handlers_at (hs ++ h ∷ []) p ≡ handlers_at hs p + one_at h p
-handlers_at-push hs h p = sum_by_push (λ (x : HandlerId). cond (x.micro.0 == p) 1 0) hs h
 
 handlers_at-le : (hs : List HandlerId) (p : ℕ) → handlers_at hs p ≤ length hs
 handlers_at-le hs p = count_by-le-length (λ (x : HandlerId). x.micro.0 == p) hs
-
-calls_at-append : (es fs : List Entry) (p : ℕ) → calls_at (es ++ fs) p ≡ calls_at es p + calls_at fs p
-calls_at-append [] fs p = omega arith
-calls_at-append (Entry.Accepted call caller handler arg ∷ es) fs p =
-    let ih : calls_at (es ++ fs) p ≡ calls_at es p + calls_at fs p = calls_at-append es fs p in
-    ap (λ (x : ℕ). if handler.micro.0 == p then x + 1 else x) ih ∙ go (handler.micro.0 == p) (calls_at es p) (calls_at fs p)
-  where
-    go : (b : Bool) (x y : ℕ) → (if b then x + y + 1 else x + y) ≡ (if b then x + 1 else x) + y
-    go true x y = omega arith
-    go false x y = refl
-calls_at-append (_ ∷ es) fs p = calls_at-append es fs p
 
 calls_at-le : (es : List Entry) (p : ℕ) → calls_at es p ≤ calls_made es
 calls_at-le [] p = omega arith
@@ -43,21 +23,6 @@ calls_at-le (Entry.Accepted call caller handler arg ∷ es) p = go (handler.micr
     go true x y le = omega arith
     go false x y le = omega arith
 calls_at-le (_ ∷ es) p = calls_at-le es p
-
--- the calls of these handlers are as many at a microprotocol as the handlers
-calls_at-entered : (number : ℕ) (arg : List ℕ) (n : ℕ) (hs : List HandlerId) (p : ℕ) → calls_at (map (entry_of number arg) (calls_from n hs)) p ≡ handlers_at hs p
-calls_at-entered number arg n [] p = refl
-calls_at-entered number arg n (h ∷ hs) p =
-    let ih : calls_at (map (entry_of number arg) (calls_from (n + 1) hs)) p ≡ handlers_at hs p = calls_at-entered number arg (n + 1) hs p in
-    ap (λ (x : ℕ). if h.micro.0 == p then x + 1 else x) ih ∙ (go (h.micro.0 == p) (handlers_at hs p) ∙ sym (handlers_at-cons h hs p))
-  where
-    go : (b : Bool) (x : ℕ) → (if b then x + 1 else x) ≡ cond b 1 0 + x
-    go true x = omega arith
-    go false x = omega arith
-
--- none was made at first
-pub counts_none : Counts (replicate 24 0) []
-counts_none = record { len = refl; counts = λ p lt. get_or-replicate 24 p 0 0 lt }
 
 -- an entry of another kind counts nowhere
 pub counts_noted : (visits : List ℕ) (es : List Entry) (e : Entry) (es' : List Entry) → es' ≡ es ++ e ∷ [] → calls_made (e ∷ []) ≡ 0 → Counts visits es → Counts visits es'
@@ -137,9 +102,9 @@ added_more visits now now' hs i d lt added is known =
     record {
       len = ap (λ (xs : List ℕ). length xs) is ∙ (length-set now q (slice_index now q + 1) ∙ added.len);
       counts = λ p below.
-          let more : handlers_at (take (i + 1) hs) p ≡ handlers_at (take i hs) p + one_at h p =
-          ap (λ (xs : List HandlerId). handlers_at xs p) (take_more hs i d lt) ∙ handlers_at-push (take i hs) h p in
-          let new : slice_index now' p ≡ slice_index now p + one_at h p = ap (λ (xs : List ℕ). slice_index xs p) is ∙ bumped now q p within in
+          let more : handlers_at (take (i + 1) hs) p ≡ handlers_at (take i hs) p + cond (h.micro.0 == p) 1 0 =
+          ap (λ (xs : List HandlerId). handlers_at xs p) (take_more hs i d lt) ∙ handlers_at-snoc (take i hs) h p in
+          let new : slice_index now' p ≡ slice_index now p + cond (h.micro.0 == p) 1 0 = ap (λ (xs : List ℕ). slice_index xs p) is ∙ bumped now q p within in
           let before : slice_index now p ≡ slice_index visits p + handlers_at (take i hs) p = added.counts p below in
           omega arith;
     }

@@ -18,14 +18,6 @@ calls_made-append (_ ∷ xs) ys = calls_made-append xs ys
 pub length_of_reverse : (xs : List Active) (a : Active) (rest : List Active) → reverse xs ≡ a ∷ rest → length xs ≡ suc (length rest)
 length_of_reverse xs a rest e = sym (length-reverse xs) ∙ ap (λ (ys : List Active). length ys) e
 
-pub length-calls_from : (n : ℕ) (hs : List HandlerId) → length (calls_from n hs) ≡ length hs
-length-calls_from n [] = refl
-length-calls_from n (h ∷ hs) = ap suc (length-calls_from (n + 1) hs)
-
-pub length-to_begin : (arg : List ℕ) (cs : List Call) → length (to_begin arg cs) ≡ length cs
-length-to_begin arg [] = refl
-length-to_begin arg (c ∷ cs) = ap suc (length-to_begin arg cs)
-
 pub length-entries_of : (caller : ℕ) (arg : List ℕ) (cs : List Call) → length (map (entry_of caller arg) cs) ≡ length cs
 length-entries_of caller arg [] = refl
 length-entries_of caller arg (c ∷ cs) = ap suc (length-entries_of caller arg cs)

@@ -18,6 +18,8 @@ use Rattle.samoa_serial.specs.Calls.{Computation, take_outcome, take_outcome_at,
 use Rattle.samoa_serial.specs.Alone.{Machine, next_at, next_of, next_step, turn, turn_of}
 use Rattle.samoa_model.specs.Scripts.{Table}
 use Rattle.samoa_model.specs.Entries.{calls_at}
+use Rattle.samoa_model.proofs.Counts.{calls_at-append, handlers_at-cons, handlers_at-snoc}
+use Rattle.samoa_serial.proofs.Lengths.{calls_at-entered}
 use Rattle.samoa_serial.proofs.Point.{turn_is}
 use Rattle.samoa_invariant.specs.Play.{Play, rules, is_bound, attempts, table_of, point, drive, done, ends_call, Never}
 use Rattle.samoa_invariant.specs.State.{Core}
@@ -30,39 +32,9 @@ use Rattle.samoa_invariant.proofs.preservation.Steps.{some_injective}
 use Rattle.samoa_invariant.proofs.preservation.Closed.{Of, IsPlain, IsClosed, closed_replied, closed_take, closed_drive, closed_start}
 use Rattle.samoa_invariant.proofs.preservation.Accepts.{AllPass, AllActive, IsAccepted, is_accepted, passed_bound, passed_form, next_is_head}
 
-handlers_at-cons : (g : HandlerId) (gs : List HandlerId) (p : ℕ) → handlers_at (g ∷ gs) p ≡ one_at g p + handlers_at gs p
-handlers_at-cons g gs p =
-    sum_by-append (λ (x : HandlerId). cond (x.micro.0 == p) (suc zero) zero) (g ∷ []) gs
-    ∙ ap (λ (n : ℕ). n + handlers_at gs p) (zero-add (cond (g.micro.0 == p) (suc zero) zero))
-
-handlers_at-snoc : (before : List HandlerId) (g : HandlerId) (p : ℕ) → handlers_at (before ++ g ∷ []) p ≡ handlers_at before p + one_at g p
-handlers_at-snoc [] g p = let e : handlers_at (g ∷ []) p ≡ one_at g p + handlers_at [] p = handlers_at-cons g [] p in
-    let z : handlers_at [] p ≡ zero = refl in omega arith
-handlers_at-snoc (b ∷ bs) g p =
-    let ih : handlers_at (bs ++ g ∷ []) p ≡ handlers_at bs p + one_at g p = handlers_at-snoc bs g p in
-    let e : handlers_at (b ∷ (bs ++ g ∷ [])) p ≡ one_at b p + handlers_at (bs ++ g ∷ []) p = handlers_at-cons b (bs ++ g ∷ []) p in
-    let f : handlers_at (b ∷ bs) p ≡ one_at b p + handlers_at bs p = handlers_at-cons b bs p in
-    omega arith
-
 more_if : (b : Bool) (x y : ℕ) → (if b then x + y + 1 else x + y) ≡ x + (if b then y + 1 else y)
 more_if true x y = omega arith
 more_if false x y = refl
-
-calls_at-append : (es fs : List Entry) (p : ℕ) → calls_at (es ++ fs) p ≡ calls_at es p + calls_at fs p
-calls_at-append [] fs p = omega arith
-calls_at-append (Entry.Accepted call caller handler arg ∷ es) fs p =
-    let ih : calls_at (es ++ fs) p ≡ calls_at es p + calls_at fs p = calls_at-append es fs p in
-    ap (λ (x : ℕ). if handler.micro.0 == p then x + 1 else x) ih ∙ go (handler.micro.0 == p) (calls_at es p) (calls_at fs p)
-  where
-    go : (b : Bool) (x y : ℕ) → (if b then x + y + 1 else x + y) ≡ (if b then x + 1 else x) + y
-    go true x y = omega arith
-    go false x y = refl
-calls_at-append (Entry.Finished call reply ∷ es) fs p = calls_at-append es fs p
-calls_at-append (Entry.Refused caller event refusal ∷ es) fs p = calls_at-append es fs p
-calls_at-append (Entry.Waiting call event arg ∷ es) fs p = calls_at-append es fs p
-calls_at-append (Entry.Sent call to event arg ∷ es) fs p = calls_at-append es fs p
-calls_at-append (Entry.Delivered call micro arg ∷ es) fs p = calls_at-append es fs p
-calls_at-append (Entry.Asked call change arg ∷ es) fs p = calls_at-append es fs p
 
 plain_calls : (e : Entry) (p : ℕ) → IsPlain e → calls_at (e ∷ []) p ≡ zero
 plain_calls (Entry.Accepted call caller handler arg) p plain = absurd plain
@@ -72,16 +44,6 @@ plain_calls (Entry.Waiting call event arg) p plain = refl
 plain_calls (Entry.Sent call to event arg) p plain = refl
 plain_calls (Entry.Delivered call micro arg) p plain = refl
 plain_calls (Entry.Asked call change arg) p plain = refl
-
-calls_at-entered : (number : ℕ) (arg : List ℕ) (n : ℕ) (hs : List HandlerId) (p : ℕ) → calls_at (map (entry_of number arg) (calls_from n hs)) p ≡ handlers_at hs p
-calls_at-entered number arg n [] p = refl
-calls_at-entered number arg n (g ∷ gs) p =
-    let ih : calls_at (map (entry_of number arg) (calls_from (n + 1) gs)) p ≡ handlers_at gs p = calls_at-entered number arg (n + 1) gs p in
-    ap (λ (x : ℕ). if g.micro.0 == p then x + 1 else x) ih ∙ (go (g.micro.0 == p) (handlers_at gs p) ∙ sym (handlers_at-cons g gs p))
-  where
-    go : (b : Bool) (x : ℕ) → (if b then x + 1 else x) ≡ (if b then suc zero else zero) + x
-    go true x = omega arith
-    go false x = omega arith
 
 active_at-begun : (arg : List ℕ) (n : ℕ) (hs : List HandlerId) (rest : List Active) (p : ℕ)
     → active_at (to_begin arg (calls_from n hs) ++ rest) p ≡ handlers_at hs p + active_at rest p

@@ -2,7 +2,7 @@ use Rattle.std.proofs.Common.{◌≡◌, ◌-◌, true, map, vec_len}
 use Rattle.std.specs.List.{All}
 use Rattle.samoa_model.specs.declared.setup.Kind.TheVariants.{Prog}
 use Rattle.samoa_micro.specs.Covers.{count_of}
-use Rattle.samoa_prog.specs.contracts.prog.ProgMicro.TheImpl.{ghosts}
+use Rattle.samoa.specs.contracts.tests.FaintMicro.TheImpl.{ghosts}
 use Rattle.samoa.proofs.tests.boxes.Given as goal
 
 -- every one is fresh, and of the scripted kind

@@ -1,7 +1,8 @@
 use Rattle.std.proofs.Common.{List, length, arith, length-append, ap, refl}
 use Rattle.samoa_model.specs.declared.record.Entry.{Entry}
 use Rattle.samoa_calls.proofs.Counts.{counts_entered, counts_noted, has_room}
-use Rattle.samoa_calls.proofs.Made.{length-calls_from, length-entries_of}
+use Rattle.samoa_calls.proofs.Made.{length-entries_of}
+use Rattle.samoa_serial.proofs.Lengths.{length-calls_from}
 use Rattle.samoa_calls.proofs.attempt.attempt.Goals as goal
 
 pub refusal-refused-requires-clause-room : goal.refusal-refused-requires-clause-room
