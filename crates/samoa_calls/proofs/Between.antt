@@ -14,7 +14,7 @@ use Rattle.samoa_serial.specs.declared.call.Due.{Due}
 use Rattle.samoa_serial.specs.declared.call.Waiting.{Waiting}
 use Rattle.samoa_serial.specs.World.{Books, Attempts, noted, refused}
 use Rattle.samoa_serial.specs.Calls.{Computation, attempted, woken, first_answer, given, replied, at_frame, outcome_effect, outcome_spends, outcome_taken, take_outcome, take_outcome_at, start}
-use Rattle.samoa_calls.specs.Handed.{CallsNamed, IsAtMoment, IsBetween, IsNamed, fresh}
+use Rattle.samoa_calls.specs.Handed.{CallsNamed, IsAtMoment, IsBetween, IsNamed}
 
 -- some call is active, and the innermost one is at a moment
 ready : (comp : Computation) (a : Active) (rest : List Active) → comp.active ≡ a ∷ rest → IsAtMoment comp.active → IsBetween comp
@@ -90,9 +90,6 @@ start_between attempt budget event arg = go (attempt [] None event)
     go : (a : Attempt) → IsBetween (attempted books None event arg None [] (λ books' reply. replied attempt books' None [] reply) a)
     go (Attempt.Refuses r) = replied_between attempt (refused books None event r) None [] (Reply.Refused r)
     go (Attempt.Accepts h hs) = ready _ _ _ refl (_, refl)
-
-pub fresh_between : (budget : ℕ) → IsBetween (fresh budget)
-fresh_between budget = record { idle = λ none. refl; next = tt; answered = λ none started. absurd (omega (arith, started)) }
 
 -- a table in which an event has these handlers
 abbrev pub table_with : ℕ → List HandlerId → Table

@@ -2,11 +2,9 @@
 use Rattle.std.proofs.Common.{arith, ◌≡◌, ℕ, ◌+◌, ◌<◌, ◌≤◌, sym, ap, ◌∙◌, ◌∷◌, [], ◌++◌, List, append_assoc, drop, get_or, length, length-append, length-drop}
 use Rattle.std.proofs.lemmas.List.{append-nil, drop-drop}
 use Rattle.std.proofs.Math.Seq.{drop-append_seam}
-use Rattle.samoa_model.specs.declared.ids.EventId.{EventId}
 use Rattle.samoa_model.specs.declared.ids.HandlerId.{HandlerId}
 use Rattle.samoa_model.specs.Scripts.{Table, resolve}
 use Rattle.samoa_serial.specs.declared.call.Waiting.{Waiting}
-use Rattle.samoa_calls.specs.Handed.{AreCounted, IsCounted}
 use Rattle.samoa_calls.specs.Held.{handlers_of}
 use Rattle.samoa_calls.proofs.Wakes.{waiting_split}
 
@@ -16,10 +14,6 @@ handlers_of-push table [] w = append-nil (resolve table w.event)
 handlers_of-push table (v ∷ vs) w =
     ap (λ (hs : List HandlerId). resolve table v.event ++ hs) (handlers_of-push table vs w)
     ∙ sym (append_assoc (resolve table v.event) (handlers_of table vs) (resolve table w.event))
-
--- the handlers that a table gives are counted
-pub counted_at : (table : Table) (event : EventId) (hs : List HandlerId) → IsCounted table → event.0 < length table → hs ≡ resolve table event → AreCounted hs
-counted_at table event hs counted lt is = rw is (counted event.0 [] lt)
 
 -- what the list is while the calls are taken out
 pub record AreListed (table : Table) (items : List HandlerId) (passed : ℕ) (waiting : List Waiting) : Type 0 where

@@ -7,7 +7,6 @@ use Rattle.samoa_serial.specs.declared.call.Call.{Call}
 use Rattle.samoa_model.specs.declared.ids.HandlerId.{HandlerId}
 use Rattle.samoa_model.specs.Entries.{calls_made}
 use Rattle.samoa_serial.specs.World.{calls_from, entry_of}
-use Rattle.samoa_serial.specs.Calls.{to_begin}
 
 pub calls_made-append : (xs ys : List Entry) → calls_made (xs ++ ys) ≡ calls_made xs + calls_made ys
 calls_made-append [] ys = omega arith

@@ -1,26 +1,18 @@
 -- The waiting calls name events of the table.
 use Rattle.std.proofs.Common.{arith, zero, suc, ℕ, ◌<◌, ◌∷◌, [], List, length, Option, Some}
-use Rattle.std.proofs.lemmas.List.{length-map}
 use Rattle.std.proofs.lemmas.List.Elements.{All-nil, All-push}
 use Rattle.samoa_model.specs.declared.handler.Reply.{Reply}
 use Rattle.samoa_model.specs.declared.handler.Outcome.{Outcome}
 use Rattle.samoa_model.specs.declared.record.Entry.{Entry}
 use Rattle.samoa_model.specs.declared.record.Ending.{Ending}
 use Rattle.samoa_model.specs.Allowed.{Attempt}
-use Rattle.samoa_model.specs.declared.handler.Moment.{Moment}
-use Rattle.samoa_model.specs.declared.script.EventDef.{EventDef}
-use Rattle.samoa_model.specs.declared.script.Script.{Script}
-use Rattle.samoa_model.specs.Range.{IsInRange}
-use Rattle.samoa_model.specs.Scripts.{Table, first_table, micro_at, setup_of}
-use Rattle.samoa_serial.specs.State.{State}
-use Rattle.samoa_serial.specs.Kinds.{kind_step}
-use Rattle.samoa_serial.proofs.CodeLaws.{steps_are_named}
+use Rattle.samoa_model.specs.Scripts.{Table}
 use Rattle.samoa_serial.specs.declared.call.Active.{Active}
 use Rattle.samoa_serial.specs.declared.call.Call.{Call}
 use Rattle.samoa_serial.specs.declared.call.Waiting.{Waiting}
 use Rattle.samoa_serial.specs.World.{Books, Attempts, noted}
 use Rattle.samoa_serial.specs.Calls.{Computation, attempted, woken, first_answer, replied, at_frame, outcome_effect, outcome_spends, outcome_taken, take_outcome, take_outcome_at}
-use Rattle.samoa_calls.specs.Handed.{AreNamed, CallsNamed, IsNamed}
+use Rattle.samoa_calls.specs.Handed.{AreNamed, CallsNamed}
 
 named_later : (table : Table) (w : Waiting) (ws : List Waiting) → AreNamed table (w ∷ ws) → AreNamed table ws
 named_later table w ws all = λ k d lt. all (suc k) d (omega arith)
@@ -81,12 +73,3 @@ named-at table attempt (a ∷ rest) books answer outcome all named = named-outco
 pub named-taken : (table : Table) (attempt : Attempts) (comp : Computation) (outcome : Outcome) → AreNamed table comp.waiting → CallsNamed table outcome
     → AreNamed table (take_outcome attempt comp outcome).waiting
 named-taken table attempt comp outcome all named = named-at table attempt comp.active comp.books comp.answer outcome all named
-
--- a handler step of a script in range names what is of the script
-pub named_step : (script : Script) (node p : ℕ) (state : State) (moment : Moment) → IsInRange script
-    → IsNamed (first_table script) (kind_step (micro_at script p).kind (setup_of script node p) state moment).1
-named_step script node p state moment range = record {
-  script = script;
-  events = length-map script.events (λ (e : EventDef). e.handlers);
-  names = steps_are_named script range node p state moment;
-}

@@ -222,8 +222,3 @@ ready-is t comp step b run first next turn test = (
         subst (λ (p : ℕ). model.CanEnter (play t) (state t) (comp - 1) p) at
         (enter-due t (comp - 1) call.call step.1 run call.next (subst (λ (p : ℕ). model.HasTurn (play t) (state t) (comp - 1) p) (sym at) turn)
         (subst (λ (p : ℕ). (state t).out ((play t).node (comp - 1)) p ≡ None) (sym at) free.0) free.1)
-
--- what hasn't its turn may not begin
-pub not-ready : (t : Trace) (comp : ℕ) (step : MicroId × Moment) → next_moment ((state t).comp (comp - 1)) ≡ Some step → (model.HasTurn (play t) (state t) (comp - 1) step.0.0 → ⊥)
-    → ((micro : ℕ) × IsDue t (Step.Enter comp micro)) → ⊥
-not-ready t comp step next none due = none (subst (λ (p : ℕ). model.HasTurn (play t) (state t) (comp - 1) p) (due-at t comp due.0 step due.1 next) due.1.enabled.turn)

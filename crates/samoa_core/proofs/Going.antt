@@ -45,7 +45,8 @@ use Rattle.samoa_core.specs.Turns.{HasCome, IsNext, box_of}
 use Rattle.samoa_core.specs.Kept.{Fields, Holds, Kept, Runs, trace_of, unended}
 use Rattle.samoa_core.proofs.Counts.{away-back, away-most, away-out, unended-end}
 use Rattle.samoa_core.proofs.Facts.{next-declared, next-within, same-call, sound}
-use Rattle.samoa_core.proofs.Grids.{each-set, grid-put, grid-set, item_at, length-set}
+use Rattle.samoa_core.proofs.Grids.{each-set, grid-put, grid-set, item_at}
+use Rattle.std.proofs.lemmas.List.{length-set}
 use Rattle.samoa_core.proofs.Keeps.{kept-with, moved, place-within, runs-at, runs-on}
 use Rattle.samoa_core.proofs.Names.{named-step}
 use Rattle.samoa_core.proofs.Rising.{grid-risen}

@@ -1,10 +1,10 @@
 -- Lists that hold the values of functions, and lists of which one item is changed.
-use Rattle.std.proofs.Common.{◌≡◌, ◌≢◌, ◌⊎◌, inl, inr, ℕ, zero, suc, ◌+◌, ◌*◌, ◌<◌, refl, sym, ap, subst, ◌∙◌, List, [], ◌∷◌, ◌++◌, length, get_or, set, Some, length-append, replicate, arith}
+use Rattle.std.proofs.Common.{◌≡◌, ◌≢◌, ◌⊎◌, inl, inr, ℕ, zero, suc, ◌+◌, ◌*◌, ◌<◌, refl, sym, ap, subst, ◌∙◌, List, [], ◌∷◌, ◌++◌, length, length-set, get_or, set, Some, length-append, replicate, arith}
 use Rattle.std.specs.Prelude.{slice_get}
 use Rattle.std.proofs.lemmas.Nat.{mul-add-lt, same_from_place}
 use Rattle.std.proofs.lemmas.List.{length-replicate}
 use Rattle.samoa_invariant.specs.Slots.{At, put_at}
-use Rattle.samoa_invariant.proofs.preservation.Slots.{put_at-else, put_at-here}
+use Rattle.samoa_invariant.proofs.preservation.Slots.{put_at-else, put_at-here, slot_or_not}
 use Rattle.samoa_core.specs.Grids.{Grid, Row}
 
 set-same : {A : Type 0} (xs : List A) (i : ℕ) (x : A) → i < length xs → slice_get (set xs i x) i ≡ Some x
@@ -19,29 +19,6 @@ set-other (y ∷ ys) zero (suc j) x ne = refl
 set-other (y ∷ ys) (suc i) zero x ne = refl
 set-other (y ∷ ys) (suc i) (suc j) x ne = set-other ys i j x (λ e. ne (ap suc e))
 
-pub length-set : {A : Type 0} (xs : List A) (i : ℕ) (x : A) → length (set xs i x) ≡ length xs
-length-set [] i x = refl
-length-set (y ∷ ys) zero x = refl
-length-set (y ∷ ys) (suc i) x = ap suc (length-set ys i x)
-
-pub cases_eq : (a b : ℕ) → (a ≡ b) ⊎ (a ≢ b)
-cases_eq zero zero = inl refl
-cases_eq zero (suc b) = inr (λ e. omega (arith, e))
-cases_eq (suc a) zero = inr (λ e. omega (arith, e))
-cases_eq (suc a) (suc b) = go (cases_eq a b)
-  where
-    go : (a ≡ b) ⊎ (a ≢ b) → (suc a ≡ suc b) ⊎ (suc a ≢ suc b)
-    go (inl e) = inl (ap suc e)
-    go (inr ne) = inr (λ e. ne (omega (arith, e)))
-
-pub cell_or_not : (i v j p : ℕ) → ((i ≡ v) × (j ≡ p)) ⊎ ((i ≢ v) ⊎ (j ≢ p))
-cell_or_not i v j p = go (cases_eq i v) (cases_eq j p)
-  where
-    go : (i ≡ v) ⊎ (i ≢ v) → (j ≡ p) ⊎ (j ≢ p) → ((i ≡ v) × (j ≡ p)) ⊎ ((i ≢ v) ⊎ (j ≢ p))
-    go (inl e) (inl f) = inl (e, f)
-    go (inl e) (inr n) = inr (inr n)
-    go (inr n) f = inr (inl n)
-
 pub grid-within : (rows columns v p : ℕ) → v < rows → p < columns → v * columns + p < rows * columns
 grid-within rows columns v p lt below = omega (arith, mul-add-lt v columns p rows lt below)
 
@@ -49,7 +26,7 @@ grid-within rows columns v p lt below = omega (arith, mul-add-lt v columns p row
 pub grid-set : {A : Type 0} (rows columns : ℕ) (items : List A) (f g : ℕ → ℕ → A) (v p : ℕ) (x : A) → v < rows → p < columns → Grid rows columns items f
     → g v p ≡ x → ((i j : ℕ) → (i ≢ v) ⊎ (j ≢ p) → g i j ≡ f i j) → Grid rows columns (set items (v * columns + p) x) g
 grid-set {A = A} rows columns items f g v p x lt below grid here others =
-    record { size = length-set items (v * columns + p) x ∙ grid.size; value = λ i j ri cj. go i j ri cj (cell_or_not i v j p) }
+    record { size = length-set items (v * columns + p) x ∙ grid.size; value = λ i j ri cj. go i j ri cj (slot_or_not i v j p) }
   where
     go : (i j : ℕ) → i < rows → j < columns → ((i ≡ v) × (j ≡ p)) ⊎ ((i ≢ v) ⊎ (j ≢ p)) → slice_get (set items (v * columns + p) x) (i * columns + j) ≡ Some (g i j)
     go i j ri cj (inl e) =
@@ -70,11 +47,6 @@ pub grid-same : {A : Type 0} (rows columns : ℕ) (items : List A) (f g : ℕ �
     → Grid rows columns items g
 grid-same {A = A} rows columns items f g e grid =
     record { size = grid.size; value = λ i j ri cj. grid.value i j ri cj ∙ ap (λ (y : A). Some y) (sym (e i j)) }
-
-pub slice_get-left : {A : Type 0} (xs ys : List A) (k : ℕ) → k < length xs → slice_get (xs ++ ys) k ≡ slice_get xs k
-slice_get-left [] ys k lt = absurd (omega (arith, lt))
-slice_get-left (x ∷ xs) ys zero lt = refl
-slice_get-left (x ∷ xs) ys (suc k) lt = slice_get-left xs ys k (omega (arith, lt))
 
 pub slice_get-right : {A : Type 0} (xs ys : List A) (k : ℕ) → slice_get (xs ++ ys) (length xs + k) ≡ slice_get ys k
 slice_get-right [] ys k = ap (λ (n : ℕ). slice_get ys n) (omega arith)
@@ -104,7 +76,7 @@ grid-row {A = A} rows columns items row f grid as_long each =
         let before : i < rows = omega (arith, ri, ne) in
         let size : length items ≡ rows * columns = grid.size in
         let within : i * columns + j < rows * columns = grid-within rows columns i j before cj in
-        slice_get-left {A = A} items row (i * columns + j) (omega (arith, within, size)) ∙ grid.value i j before cj
+        slice_get_left {A = A} items row (i * columns + j) (omega (arith, within, size)) ∙ grid.value i j before cj
 
 slice_get-replicate : {A : Type 0} (n : ℕ) (x : A) (k : ℕ) → k < n → slice_get (replicate n x) k ≡ Some x
 slice_get-replicate zero x k lt = absurd (omega (arith, lt))
@@ -127,19 +99,6 @@ pub grid-put : {A : Type 0} (rows columns : ℕ) (items : List A) (f : At A) (v 
 grid-put {A = A} rows columns items f v p x lt below grid =
     grid-set rows columns items f (put_at f v p x) v p x lt below grid (put_at-here {A = A} f v p v p x refl refl)
     (λ i j ne. put_at-else {A = A} f v p i j x ne)
-
-pub get_or-other : {A : Type 0} (xs : List A) (i j : ℕ) (x d : A) → j ≢ i → get_or (set xs i x) j d ≡ get_or xs j d
-get_or-other [] i j x d ne = refl
-get_or-other (y ∷ ys) zero zero x d ne = absurd (ne refl)
-get_or-other (y ∷ ys) zero (suc j) x d ne = refl
-get_or-other (y ∷ ys) (suc i) zero x d ne = refl
-get_or-other (y ∷ ys) (suc i) (suc j) x d ne = get_or-other ys i j x d (λ e. ne (ap suc e))
-
--- the same where they are read
-pub grid-within_same : {A : Type 0} (rows columns : ℕ) (items : List A) (f g : At A) → ((i j : ℕ) → i < rows → j < columns → g i j ≡ f i j) → Grid rows columns items f
-    → Grid rows columns items g
-grid-within_same {A = A} rows columns items f g e grid =
-    record { size = grid.size; value = λ i j ri cj. grid.value i j ri cj ∙ ap (λ (y : A). Some y) (sym (e i j ri cj)) }
 
 -- what holds of each item of a list, once one of them is another
 pub each-set : {A : Type 0} (xs : List A) (at : ℕ) (new : A) (P : ℕ → A → Type 0) → P at new → ((i : ℕ) (x : A) → i ≢ at → slice_get xs i ≡ Some x → P i x)

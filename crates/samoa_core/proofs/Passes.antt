@@ -113,10 +113,7 @@ waits-idle t k d table p run lt waits may = idle (none_active ((state t).comp k)
     idle : ((state t).comp k).active ≡ [] → IsIdle ((state t).comp k)
     idle none = record { active = none; waiting = ap (λ (c : Computation). c.waiting) (idle_is_whole (play t) (state t) k (invariant t run) lt none) }
 
--- a release is due only of what hasn't ended, and of which nothing is left if its declaration waits for the rest
-pub due-not_ended : (t : Trace) (c p : ℕ) → IsRun t → IsDue t (Step.Release c p) → (state t).ended (c - 1) ≢ true
-due-not_ended = due-open
-
+-- a release is due only of what nothing is left of, if its declaration waits for the rest
 pub due-idle : (t : Trace) (c p : ℕ) → IsRun t → waits_for_rest ((play t).decl (c - 1)) ≡ true → IsDue t (Step.Release c p) → IsIdle ((state t).comp (c - 1))
 due-idle t c p run waits due =
     waits-idle t (c - 1) ((play t).decl (c - 1)) ((state t).table (c - 1)) p run due.enabled.turn.admitted waits due.enabled.quiet

@@ -12,7 +12,7 @@ use Rattle.samoa_invariant.specs.State as model
 use Rattle.samoa_invariant.specs.Runs.{IsRising, IsRun, Trace, after_step, clear_at, cleared, is_clear, opening_trace, play, run_from, state, with_clear, with_ext, with_step}
 use Rattle.samoa_core.specs.Since.{admissions, cleared_comps, last_of}
 
-last-most : (before least : ℕ) (clears : List ℕ) (most : ℕ) → IsRising least clears most → before ≤ most → last_of before clears ≤ most
+pub last-most : (before least : ℕ) (clears : List ℕ) (most : ℕ) → IsRising least clears most → before ≤ most → last_of before clears ≤ most
 last-most before least [] most rising le = le
 last-most before least (c ∷ cs) most rising le = last-most c (suc c) cs most rising.2 rising.1
 

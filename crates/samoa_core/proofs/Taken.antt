@@ -10,7 +10,10 @@ use Rattle.std.proofs.lemmas.Bool.{cases_eq}
 use Rattle.samoa_core.specs.Admission.{raised, turns_taken, version_after}
 use Rattle.samoa_core.specs.Grids.{Grid}
 use Rattle.samoa_core.specs.declared.running.Interval.{Interval}
-use Rattle.samoa_core.proofs.Grids.{get_or-other, grid-put, length-set, slice_get-left, slice_get-right}
+use Rattle.samoa_core.proofs.Grids.{grid-put, slice_get-right}
+use Rattle.std.proofs.lemmas.List.{get_or-set_other}
+use Rattle.std.proofs.lemmas.List.{length-set}
+use Rattle.samoa_serial.proofs.SerialLaws.{slice_get_left}
 
 -- the versions, risen at the first n microprotocols of a node
 risen : At ℕ → Decl → ℕ → ℕ → At ℕ
@@ -107,7 +110,7 @@ taken-at rows columns v (suc n) p items f decl lt le grid below = go (cases_eq p
         ∙ (ap (λ (x : ℕ). Some (risen_turn x (weight decl n))) (here rows columns v n (raised decl columns v items n) (risen f decl v n) grid_n lt (omega arith) ∙ risen-above f decl v n n (omega arith))
         ∙ ap (λ (q : ℕ). Some (risen_turn (f v q) (weight decl q))) (sym e)))
     go (inr ne) before =
-        slice_get-left {A = Interval} (turns_taken decl columns v items n) (last_turn decl columns v items n ∷ []) p (omega (arith, long, ne)) ∙ before (omega arith)
+        slice_get_left {A = Interval} (turns_taken decl columns v items n) (last_turn decl columns v items n ∷ []) p (omega (arith, long, ne)) ∙ before (omega arith)
 
 -- a version that hasn't risen yet
 pub length-raised : (decl : Decl) (columns v : ℕ) (items : List ℕ) (n : ℕ) → length (raised decl columns v items n) ≡ length items
@@ -118,5 +121,5 @@ length-raised decl columns v items (suc n) =
 pub raised-else : (decl : Decl) (columns v : ℕ) (items : List ℕ) (n p : ℕ) → n ≤ p → get_or (raised decl columns v items n) (v * columns + p) 0 ≡ get_or items (v * columns + p) 0
 raised-else decl columns v items zero p le = refl
 raised-else decl columns v items (suc n) p le =
-    get_or-other {A = ℕ} (raised decl columns v items n) (v * columns + n) (v * columns + p) (version_after decl columns v (raised decl columns v items n) n) 0 (λ e. omega arith)
+    get_or-set_other {A = ℕ} (raised decl columns v items n) (v * columns + n) (v * columns + p) (version_after decl columns v (raised decl columns v items n) n) 0 (λ e. omega arith)
     ∙ raised-else decl columns v items n p (omega arith)

@@ -8,7 +8,7 @@ use Rattle.samoa_invariant.specs.Slots.{put_at}
 use Rattle.samoa_invariant.specs.Play.{Play, point}
 use Rattle.samoa_invariant.specs.Inv.{Invariant, IsOutRightly}
 use Rattle.samoa_invariant.specs.State.{CanLeave, Core, IsEnabled, IsNextAt, Step, abandon, abandon_next, enter, home_of, leave_at, leave_next, left, left_of, made_by, not_out_by, sum_to}
-use Rattle.samoa_invariant.proofs.measure.Lefts.{step_fewer}
+use Rattle.samoa_invariant.proofs.measure.Lefts.{not_out-mine, not_out-other, step_fewer}
 use Rattle.samoa_invariant.proofs.preservation.Slots.{put-else, put_at-else, put_at-here, slot_or_not}
 use Rattle.std.proofs.lemmas.Bool.{cases_eq}
 use Rattle.samoa_invariant.proofs.preservation.Versions.{if_else, if_here}
@@ -49,12 +49,6 @@ sum-more f g (suc n) k h more = go (cases_eq k n) (sum-more f g n k (λ j lt no.
     go (inr ne) ih =
         let here : f n ≤ g n = h n (omega arith) (λ is. ne (sym is)) in
         omega arith
-
-not_out-other : (k j : ℕ) (x : Option ℕ) → x ≡ Some k → j ≢ k → not_out_by j x ≡ suc zero
-not_out-other k j x e ne = ap (λ (y : Option ℕ). not_out_by j y) e ∙ if_else {A = ℕ} k j zero (suc zero) (λ is. ne (sym is))
-
-not_out-mine : (k : ℕ) (x : Option ℕ) → x ≡ Some k → not_out_by k x ≡ zero
-not_out-mine k x e = ap (λ (y : Option ℕ). not_out_by k y) e ∙ if_here {A = ℕ} k k zero (suc zero) refl
 
 pub spare-most : (b : Bool) (home : ℕ) → spare_when b home ≤ 1
 spare-most true home = omega arith

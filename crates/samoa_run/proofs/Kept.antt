@@ -13,10 +13,7 @@ use Rattle.samoa_invariant.specs.State as model
 use Rattle.samoa_invariant.specs.Runs.{IsRising, IsRun, Trace, after_step, clear_at, cleared, is_clear, play, run_from, state}
 use Rattle.samoa_core.specs.Later.{IsLater}
 use Rattle.samoa_core.specs.Since.{admissions, cleared_comps, last_of}
-
-last-most : (before least : ℕ) (clears : List ℕ) (most : ℕ) → IsRising least clears most → before ≤ most → last_of before clears ≤ most
-last-most before least [] most rising le = le
-last-most before least (c ∷ cs) most rising le = last-most c (suc c) cs most rising.2 rising.1
+use Rattle.samoa_core.proofs.Since.{last-most}
 
 -- the same script, cells, admissions and clears, and a longer journal
 abbrev goes_on : Trace → List Step → Trace

@@ -23,6 +23,7 @@ use Rattle.samoa_serial.specs.State.{State, Registers, OfLink, OfFd, OfRbcast, O
 use Rattle.samoa_serial.specs.Kinds.{Numbers, carry_out, with_number, number_at, run_from, script_step, kind_step, dest_of, port_at, change_at_place, first_four, resumed, waited}
 use Rattle.samoa_serial.specs.Lists.{Each}
 use Rattle.samoa_serial.specs.Known.{IsDestOf, IsKnown, IsOutcomeOf, IsQuiet, IsStill, IsSilent, IsSilentKind, IsSilentMicro, HasSilentCode}
+use Rattle.samoa_serial.proofs.ScriptLaws.{read_holds}
 use Rattle.samoa_serial.proofs.EntryLaws.{IsGiven, GivesAlways, serial_entries}
 use Rattle.samoa_serial.proofs.RowLaws.{Plain, Sends, AsksFor, link-row, fd-row, rbcast-row, cons-row, abcast-row, seqcast-row, repl-row, views-row}
 
@@ -189,11 +190,6 @@ dest_known script node p to = go (nat_lt to script.nodes) refl
     go true e = ltb-true to script.nodes e
     go false e = tt
 
-all_or : {A : Type 0} (P : A → Type 0) (xs : List A) (k : ℕ) (d : A) → All P xs → P d → P (get_or xs k d)
-all_or P [] k d all p = p
-all_or P (x ∷ xs) zero d all p = All-head P x xs all
-all_or P (x ∷ xs) (suc k) d all p = all_or P xs k d (All-tail P x xs all) p
-
 -- a microprotocol names events and changes of the script
 pub record Names (script : Script) (micro : MicroDef) : Type 0 where
   pub ports : All (IsEventOf script) micro.ports
@@ -201,12 +197,12 @@ pub record Names (script : Script) (micro : MicroDef) : Type 0 where
 
 names_of : (script : Script) → IsInRange script → (p : ℕ) → Names script (micro_at script p)
 names_of script range p =
-    all_or (Names script) script.micros p no_micro
+    read_holds (Names script) script.micros p no_micro
     (All-weaker (IsMicroInRange script) (Names script) (λ micro is. record { ports = is.ports; changes = is.changes }) script.micros range.micros)
     (record { ports = All-nil (IsEventOf script); changes = All-nil (IsChangeOf script) })
 
 port_known : (script : Script) → IsInRange script → (node p port : ℕ) → IsEventOf script (port_at (setup_of script node p) port)
-port_known script range node p port = all_or (IsEventOf script) (micro_at script p).ports port (record { 0 = 0 }) (names_of script range p).ports range.some_event
+port_known script range node p port = read_holds (IsEventOf script) (micro_at script p).ports port (record { 0 = 0 }) (names_of script range p).ports range.some_event
 
 change_known : (script : Script) → IsInRange script → (node p place : ℕ) → place < length (micro_at script p).changes
     → IsChangeOf script (change_at_place (setup_of script node p) place)

@@ -28,10 +28,10 @@ pub home-most : (P : Play) (core : Core) (k : ℕ) (x : Option (Call × Moment))
 home-most P core k None = omega arith
 home-most P core k (Some next) = not_out-most k (core.out (P.node k) next.0.handler.micro.0)
 
-not_out-other : (k j : ℕ) (x : Option ℕ) → x ≡ Some k → j ≢ k → not_out_by j x ≡ suc zero
+pub not_out-other : (k j : ℕ) (x : Option ℕ) → x ≡ Some k → j ≢ k → not_out_by j x ≡ suc zero
 not_out-other k j x e ne = ap (λ (y : Option ℕ). not_out_by j y) e ∙ if_else {A = ℕ} k j zero (suc zero) (λ is. ne (sym is))
 
-not_out-mine : (k : ℕ) (x : Option ℕ) → x ≡ Some k → not_out_by k x ≡ zero
+pub not_out-mine : (k : ℕ) (x : Option ℕ) → x ≡ Some k → not_out_by k x ≡ zero
 not_out-mine k x e = ap (λ (y : Option ℕ). not_out_by k y) e ∙ if_here {A = ℕ} k k zero (suc zero) refl
 
 short-less : (a b : ℕ) (p : ℕ) → a ≤ b → short_at (nat_lt b p) ≤ short_at (nat_lt a p)

@@ -19,6 +19,7 @@ use Rattle.samoa_serial.specs.Calls.{Computation, take_outcome, take_outcome_at,
 use Rattle.samoa_serial.specs.Alone.{next_at, next_of, next_step}
 use Rattle.samoa_model.specs.Scripts.{resolve, Table}
 use Rattle.samoa_model.specs.Entries.{calls_at}
+use Rattle.samoa_serial.proofs.Declared.{AllOf}
 use Rattle.samoa_invariant.specs.Play.{Play, table_of, point, drive, Never}
 use Rattle.samoa_invariant.proofs.preservation.Steps.{some_injective}
 use Rattle.samoa_invariant.proofs.preservation.Closed.{begun, IsClosed, closed_points}
@@ -103,11 +104,7 @@ abbrev pub AllActive : (HandlerId → Type 0) → List Active → Type 0
 AllActive Q [] = Unit {0}
 AllActive Q (a ∷ rest) = Q a.call.handler × AllActive Q rest
 
-abbrev pub AllHandlers : (HandlerId → Type 0) → List HandlerId → Type 0
-AllHandlers Q [] = Unit {0}
-AllHandlers Q (h ∷ hs) = Q h × AllHandlers Q hs
-
-pub begun_all : (Q : HandlerId → Type 0) (arg : List ℕ) (n : ℕ) (hs : List HandlerId) (rest : List Active) → AllHandlers Q hs → AllActive Q rest
+pub begun_all : (Q : HandlerId → Type 0) (arg : List ℕ) (n : ℕ) (hs : List HandlerId) (rest : List Active) → AllOf Q hs → AllActive Q rest
     → AllActive Q (to_begin arg (calls_from n hs) ++ rest)
 begun_all Q arg n [] rest all others = others
 begun_all Q arg n (h ∷ hs) rest all others = (all.0, begun_all Q arg (n + 1) hs rest all.1 others)
@@ -115,7 +112,7 @@ begun_all Q arg n (h ∷ hs) rest all others = (all.0, begun_all Q arg (n + 1) h
 abbrev pub IsDeclared : Decl → HandlerId → Type 0
 IsDeclared decl h = 0 < weight decl h.micro.0
 
-all_declared : (decl : Decl) (es : List Entry) (caller : Option HandlerId) (before hs : List HandlerId) → AllPass decl es caller before hs → AllHandlers (IsDeclared decl) hs
+all_declared : (decl : Decl) (es : List Entry) (caller : Option HandlerId) (before hs : List HandlerId) → AllPass decl es caller before hs → AllOf (IsDeclared decl) hs
 all_declared decl es caller before [] all = tt
 all_declared decl es caller before (h ∷ hs) all = (passed_declared decl es caller before h all.0, all_declared decl es caller (before ++ h ∷ []) hs all.1)
 

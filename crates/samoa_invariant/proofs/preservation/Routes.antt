@@ -18,7 +18,8 @@ use Rattle.samoa_invariant.specs.Play.{drive, Never}
 use Rattle.samoa_model.specs.Paths.{Leads, Here, Then, IsSafe, handlers_by}
 use Rattle.samoa_invariant.specs.State.{Quiet}
 use Rattle.samoa_invariant.proofs.preservation.Closed.{Of, IsClosed, closed_drive}
-use Rattle.samoa_invariant.proofs.preservation.Accepts.{AllPass, AllActive, AllHandlers, IsAccepted, is_accepted, begun_all, none_unless, passed_form, next_is_head}
+use Rattle.samoa_serial.proofs.Declared.{AllOf}
+use Rattle.samoa_invariant.proofs.preservation.Accepts.{AllPass, AllActive, IsAccepted, is_accepted, begun_all, none_unless, passed_form, next_is_head}
 
 leads_trans : (vertices : List HandlerId) (edges : List (ℕ × ℕ)) (a b c : HandlerId) → Leads vertices edges a b → Leads vertices edges b c → Leads vertices edges a c
 leads_trans vertices edges a b c l Here = l
@@ -30,7 +31,7 @@ AllLead vertices edges g [] = Unit {0}
 AllLead vertices edges g (h ∷ hs) = (leads vertices [] edges (Some g) h ≡ true) × AllLead vertices edges g hs
 
 safe_along : (vertices : List HandlerId) (edges : List (ℕ × ℕ)) (p : ℕ) (g : HandlerId) (hs : List HandlerId) → IsSafe vertices edges p g → AllLead vertices edges g hs
-    → AllHandlers (IsSafe vertices edges p) hs
+    → AllOf (IsSafe vertices edges p) hs
 safe_along vertices edges p g [] safe all = tt
 safe_along vertices edges p g (h ∷ hs) safe all =
     ((λ u l. safe u (leads_trans vertices edges g h u (Then g h Here all.0) l)), safe_along vertices edges p g hs safe all.1)
@@ -47,10 +48,10 @@ passed_lead vertices roots edges es g before (h ∷ hs) all =
 abbrev pub MaySafely : List HandlerId → List (ℕ × ℕ) → Table → ℕ → List Waiting → Type 0
 MaySafely vertices edges table p [] = Unit {0}
 MaySafely vertices edges table p (w ∷ ws) =
-    (AllLead vertices edges w.asker.handler (resolve table w.event) → AllHandlers (IsSafe vertices edges p) (resolve table w.event)) × MaySafely vertices edges table p ws
+    (AllLead vertices edges w.asker.handler (resolve table w.event) → AllOf (IsSafe vertices edges p) (resolve table w.event)) × MaySafely vertices edges table p ws
 
 may_last : (vertices : List HandlerId) (edges : List (ℕ × ℕ)) (table : Table) (p : ℕ) (ws : List Waiting) (w : Waiting) → MaySafely vertices edges table p ws
-    → (AllLead vertices edges w.asker.handler (resolve table w.event) → AllHandlers (IsSafe vertices edges p) (resolve table w.event))
+    → (AllLead vertices edges w.asker.handler (resolve table w.event) → AllOf (IsSafe vertices edges p) (resolve table w.event))
     → MaySafely vertices edges table p (ws ++ w ∷ [])
 may_last vertices edges table p [] w all h = (h, tt)
 may_last vertices edges table p (x ∷ xs) w all h = (all.0, may_last vertices edges table p xs w all.1 h)
@@ -90,16 +91,16 @@ away_closed vertices roots edges table p =
             waiting = k.waiting;
           };
       woken = λ first w es h hs e k.
-          let may : (AllLead vertices edges first.asker.handler (resolve table first.event) → AllHandlers Safe (resolve table first.event)) × MaySafely vertices edges table p w = k.waiting in
+          let may : (AllLead vertices edges first.asker.handler (resolve table first.event) → AllOf Safe (resolve table first.event)) × MaySafely vertices edges table p w = k.waiting in
           let got : (resolve table first.event ≡ h ∷ hs) × AllLead vertices edges first.asker.handler (h ∷ hs) = accepted_lead vertices roots edges table es first.asker first.event h hs e in
           let lead : AllLead vertices edges first.asker.handler (resolve table first.event) =
           subst (λ (xs : List HandlerId). AllLead vertices edges first.asker.handler xs) (sym got.0) got.1 in
           record {
-            active = begun_all Safe first.arg _ (h ∷ hs) [] (subst (λ (xs : List HandlerId). AllHandlers Safe xs) got.0 (may.0 lead)) tt;
+            active = begun_all Safe first.arg _ (h ∷ hs) [] (subst (λ (xs : List HandlerId). AllOf Safe xs) got.0 (may.0 lead)) tt;
             waiting = may.1;
           };
       unwoken = λ first w es k.
-          let may : (AllLead vertices edges first.asker.handler (resolve table first.event) → AllHandlers Safe (resolve table first.event)) × MaySafely vertices edges table p w = k.waiting in
+          let may : (AllLead vertices edges first.asker.handler (resolve table first.event) → AllOf Safe (resolve table first.event)) × MaySafely vertices edges table p w = k.waiting in
           record { active = k.active; waiting = may.1 };
     }
 
@@ -108,10 +109,10 @@ active_safe Q [] all = tt
 active_safe Q (a ∷ rest) all =
     (All-head Q a.call.handler (map (λ x. x.call.handler) rest) all, active_safe Q rest (All-tail Q a.call.handler (map (λ x. x.call.handler) rest) all))
 
-first_safe : (Q : HandlerId → Type 0) (hs rest : List HandlerId) → All Q (hs ++ rest) → AllHandlers Q hs × All Q rest
+first_safe : (Q : HandlerId → Type 0) (hs rest : List HandlerId) → All Q (hs ++ rest) → AllOf Q hs × All Q rest
 first_safe Q [] rest all = (tt, all)
 first_safe Q (h ∷ hs) rest all =
-    let later : AllHandlers Q hs × All Q rest = first_safe Q hs rest (All-tail Q h (hs ++ rest) all) in
+    let later : AllOf Q hs × All Q rest = first_safe Q hs rest (All-tail Q h (hs ++ rest) all) in
     ((All-head Q h (hs ++ rest) all, later.0), later.1)
 
 waiting_safe : (vertices : List HandlerId) (edges : List (ℕ × ℕ)) (table : Table) (p : ℕ) (ws : List Waiting)
