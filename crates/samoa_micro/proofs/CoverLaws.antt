@@ -7,7 +7,7 @@ use Rattle.samoa_model.specs.declared.script.MicroDef.{MicroDef}
 use Rattle.samoa_model.specs.declared.script.Script.{Script}
 use Rattle.samoa_model.specs.contracts.setup.KindPartialEq.TheImpl.{ghosts}
 use Rattle.samoa_micro.specs.Covers.{Covers, count_of, wanted}
-use Rattle.samoa_micro.proofs.Rows.{count_by-cons}
+use Rattle.samoa_micro.proofs.SeenLists.{count_by-cons}
 
 -- whether there are enough of the kind of a microprotocol
 abbrev pub has_enough : Script → List Kind → MicroDef → Bool

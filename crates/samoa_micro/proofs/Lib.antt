@@ -1,2 +1,2 @@
 pub mod CoverLaws
-pub mod Rows
+pub mod SeenLists

@@ -4,7 +4,7 @@ use Rattle.samoa_model.specs.declared.setup.Kind.{Kind}
 use Rattle.samoa_model.specs.contracts.setup.KindPartialEq.TheImpl.{ghosts}
 use Rattle.samoa_model.specs.declared.setup.Kind.TheVariants.{Prog}
 use Rattle.samoa_micro.specs.Covers.{count_of}
-use Rattle.samoa_micro.proofs.Rows.{count_by-cons}
+use Rattle.samoa_micro.proofs.SeenLists.{count_by-cons}
 
 -- one more of the scripted kind
 pub count_of-push : {X : Type 0} (kind : X → Kind) (xs : List X) (x : X) → kind x ≡ Prog → count_of (map kind (xs ++ x ∷ [])) Prog ≡ count_of (map kind xs) Prog + 1

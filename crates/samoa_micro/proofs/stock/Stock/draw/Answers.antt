@@ -2,7 +2,7 @@ use Rattle.std.proofs.Common.{◌≡◌, Some, length, refl}
 use Rattle.std.specs.List.{slice_get}
 use Rattle.std.proofs.lemmas.Option.{slice_get_read}
 use Rattle.samoa_model.specs.contracts.setup.KindPartialEq.TheImpl.{ghosts}
-use Rattle.samoa_micro.proofs.Rows.{count_by-map-remove}
+use Rattle.samoa_micro.proofs.SeenLists.{count_by-map-remove}
 use Rattle.samoa_micro.proofs.stock.Stock.draw.Goals as goal
 
 -- the one that was taken out counts no longer
