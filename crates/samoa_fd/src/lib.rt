@@ -3,6 +3,8 @@
 
 mod detector;
 mod watches;
+#[cfg(test)]
+mod tests;
 
 pub use detector::Fd;
 pub use watches::Watches;

@@ -1,9 +1,9 @@
 //! The words in which the tables of the kinds are written.
 ghost use Rattle.std.specs.Prelude.{◌≡◌, ◌≤◌, [], length};
-ghost use Rattle.samoa_serial.specs.Rows.{V, change_at_place, dest_of as node_dest, me as this_node, message_at, message_words, port_at};
+ghost use Rattle.samoa_serial.specs.Rows.{V, change_at_place, dest_of as node_dest, me as this_node, message_at, message_key, message_words, port_at, same_key};
 
 use samoa_model::{ChangeId, Dest, EventId, NodeId, Outcome, Setup, Words};
-use samoa_serial::Message;
+use samoa_serial::{Key, Message};
 
 /// This node.
 pub fn me(setup: &Setup) -> u64
@@ -117,4 +117,22 @@ pub fn words_of(message: Message) -> [u64; 5]
         value,
     } = message;
     [epoch, origin, number, kind, value]
+}
+
+/// What a message goes by.
+pub fn key_of(message: Message) -> Key
+    ensures { result ≡ message_key message }
+{
+    Key {
+        epoch: message.epoch,
+        origin: message.origin,
+        number: message.number,
+    }
+}
+
+/// Whether two keys are one.
+pub fn is_same(a: Key, b: Key) -> bool
+    ensures { result ≡ same_key a b }
+{
+    a.epoch == b.epoch && a.origin == b.origin && a.number == b.number
 }

@@ -1,0 +1,8 @@
+//! The kind `repl`: one stream of deliveries over broadcasts that replace each other.
+#![tactic(auto)]
+
+mod repl;
+#[cfg(test)]
+mod tests;
+
+pub use repl::{Repl, Stream};
