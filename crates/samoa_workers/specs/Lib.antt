@@ -1,1 +1,3 @@
 pub mod Drained
+pub mod Members
+pub mod Seats

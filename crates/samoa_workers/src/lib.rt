@@ -2,5 +2,9 @@
 #![tactic(auto)]
 
 mod batch;
+mod crew;
+mod gate;
 
 pub use batch::{Batch, drain};
+pub use crew::run_batch;
+pub use gate::{Gate, NoGate};
