@@ -110,7 +110,7 @@ taken-at rows columns v (suc n) p items f decl lt le grid below = go (cases_eq p
         ∙ (ap (λ (x : ℕ). Some (risen_turn x (weight decl n))) (here rows columns v n (raised decl columns v items n) (risen f decl v n) grid_n lt (omega arith) ∙ risen-above f decl v n n (omega arith))
         ∙ ap (λ (q : ℕ). Some (risen_turn (f v q) (weight decl q))) (sym e)))
     go (inr ne) before =
-        slice_get_left {A = Interval} (turns_taken decl columns v items n) (last_turn decl columns v items n ∷ []) p (omega (arith, long, ne)) ∙ before (omega arith)
+        slice_get_left (turns_taken decl columns v items n) (last_turn decl columns v items n ∷ []) p (omega (arith, long, ne)) ∙ before (omega arith)
 
 -- a version that hasn't risen yet
 pub length-raised : (decl : Decl) (columns v : ℕ) (items : List ℕ) (n : ℕ) → length (raised decl columns v items n) ≡ length items

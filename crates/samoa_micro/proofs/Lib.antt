@@ -1,2 +1,3 @@
 pub mod CoverLaws
 pub mod SeenLists
+pub mod Enough
