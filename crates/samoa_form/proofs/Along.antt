@@ -5,13 +5,10 @@ use Rattle.serde_json.specs.View.{view}
 use Rattle.serde_json.specs.declared.value.Value.{Value}
 use Rattle.samoa_grammar.specs.declared.fault.WalkFault.{WalkFault}
 use Rattle.samoa_grammar.specs.Walks.{◌then◌, first_along}
+use Rattle.samoa_grammar.proofs.Chains.{then_none}
 use Rattle.samoa_form.specs.declared.stop.Stop.{Stop}
 use Rattle.samoa_form.specs.declared.stop.Stop.TheVariants as stops
 use Rattle.samoa_form.specs.Reads.{Stops}
-
-pub then_none : (a b : Option WalkFault) → (a then b) ≡ None → (a ≡ None) × (b ≡ None)
-then_none None b h = (refl, h)
-then_none (Some f) b h = cc
 
 pub refused_at : (fault : Data → Option WalkFault) (vs : List Value) (i : ℕ) (v : Value) (e : WalkFault) → i < length vs → v ≡ get_or vs i v
     → first_along fault (map view (take i vs)) ≡ None → fault (view v) ≡ Some e → first_along fault (map view vs) ≡ Some e

@@ -24,29 +24,9 @@ use Rattle.samoa_grammar.specs.Instrs.{is_instr, instr_of}
 use Rattle.samoa_grammar.specs.Walks.{◌then◌, first_along}
 use Rattle.samoa_grammar.specs.Tests.{object_fault, required, optional, form_test, number_fault, number_from_fault, name_fault, is_list_of, within_fault, items_fault, list_fault}
 use Rattle.samoa_grammar.specs.Forms.{code_fault, code_of, kind_named, kind_in, is_kind, kind_or_prog, is_prog, has_handlers, micro_keys, handlers_fault, handlers_of, micro_fault, micro_of, bound_fault, bound_of, is_edge, form_named, form_in, is_form, decl_keys, body_fault, body_of, decl_fault, decl_of, event_fault, event_of, table_fault, table_of, change_fault, change_of, cause_count_fault, cause_fault, do_fault, do_of, loss_fault, crash_fault, script_keys, is_version, form_of_all, draft_of}
-use Rattle.samoa_form.proofs.Along.{then_none}
+use Rattle.samoa_grammar.proofs.Chains.{then_none, then_three, then_four, then_five}
 use Rattle.samoa_grammar.proofs.Instrs.{instr_kept}
 use Rattle.samoa_form.specs.Limits.{HasMicroLimits, HasCalls, HasBodyLimits, HasDeclLimits, HasEventLimits, HasTableLimits, HasChangeLimits, HasDoLimits, HasLimits}
-
--- ---- a chain of tests without a fault
-
-then_three : (a b c : Option WalkFault) → (a then b then c) ≡ None → (a ≡ None) × (b ≡ None) × (c ≡ None)
-then_three a b c h =
-    let first = then_none a (b then c) h in
-    let rest = then_none b c first.1 in
-    (first.0, rest.0, rest.1)
-
-then_four : (a b c d : Option WalkFault) → (a then b then c then d) ≡ None → (a ≡ None) × (b ≡ None) × (c ≡ None) × (d ≡ None)
-then_four a b c d h =
-    let first = then_none a (b then c then d) h in
-    let rest = then_three b c d first.1 in
-    (first.0, rest.0, rest.1, rest.2)
-
-then_five : (a b c d e : Option WalkFault) → (a then b then c then d then e) ≡ None → (a ≡ None) × (b ≡ None) × (c ≡ None) × (d ≡ None) × (e ≡ None)
-then_five a b c d e h =
-    let first = then_none a (b then c then d then e) h in
-    let rest = then_four b c d e first.1 in
-    (first.0, rest.0, rest.1, rest.2, rest.3)
 
 -- ---- the values at the keys
 

@@ -6,6 +6,7 @@ use Rattle.std.specs.Map.{keys_of as entry_keys}
 use Rattle.serde_json.specs.View.{view, items_view, members_view}
 use Rattle.serde_json.specs.declared.value.Value.{Value}
 use Rattle.samoa_grammar.specs.Tree.{items_list, keys_of, known_keys}
+use Rattle.samoa_grammar.proofs.Lists.{list_any-map}
 
 pub items_list-items_view : (vs : List Value) → items_list (items_view vs) ≡ map view vs
 items_list-items_view [] = refl
@@ -14,10 +15,6 @@ items_list-items_view (v ∷ vs) = ap (λ ds. view v ∷ ds) (items_list-items_v
 pub keys_of-members_view : (es : List (String Global × Value)) → keys_of (members_view es) ≡ map string_bytes (entry_keys es)
 keys_of-members_view [] = refl
 keys_of-members_view (e ∷ es) = ap (λ ks. string_bytes e.0 ∷ ks) (keys_of-members_view es)
-
-pub list_any-map : {X Y : Type 0} (p : Y → Bool) (h : X → Y) (xs : List X) → list_any p (map h xs) ≡ list_any (λ x. p (h x)) xs
-list_any-map p h [] = refl
-list_any-map p h (x ∷ xs) = ap (λ b. p (h x) || b) (list_any-map p h xs)
 
 known_here : (names : List (Bor (List ℕ))) (es : List (String Global × Value))
     → list_all (λ key. list_any (λ (name : Bor (List ℕ)). bytes_eq name.now (string_bytes key)) names) (entry_keys es) ≡ known_keys (map (λ (name : Bor (List ℕ)). name.now) names) (members_view es)

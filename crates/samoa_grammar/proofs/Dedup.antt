@@ -7,7 +7,7 @@ use Rattle.std.proofs.lemmas.List.{append_assoc, append-nil}
 use Rattle.std.proofs.lemmas.List.Elements.{All-nil, All-cons, All-head, All-tail}
 use Rattle.std.proofs.lemmas.List.Folds.{list_any-append}
 use Rattle.std.proofs.lemmas.List.Quantifiers.{position-Some}
-use Rattle.std.proofs.lemmas.Bool.{and_parts, and_from}
+use Rattle.std.proofs.lemmas.Bool.{and_parts, and_from, or_left, or_right}
 use Rattle.std.proofs.lemmas.Slice.Eq.{bytes_eq-Decides}
 use Rattle.samoa_model.specs.declared.ids.HandlerId.{HandlerId}
 use Rattle.samoa_model.specs.Allowed.{same_handler}
@@ -188,14 +188,6 @@ AreCovered same at edge b eb = (n : ℕ × ℕ) → list_any (edge n) eb ≡ tru
 skipped : {X : Type 0} (same : X → X → Bool) (b : List X) (x y : X) (xs : List X) → list_any (same x) b ≡ true → list_any (same y) b ≡ true → dedup same b (x ∷ y ∷ xs) ≡ dedup same b xs
 skipped same b x y xs p q =
     ap (λ k. cond k (dedup same b (y ∷ xs)) (x ∷ dedup same (b ++ x ∷ []) (y ∷ xs))) p ∙ ap (λ k. cond k (dedup same b xs) (y ∷ dedup same (b ++ y ∷ []) xs)) q
-
-or_left : (a b : Bool) → a ≡ true → (a || b) ≡ true
-or_left true b h = refl
-or_left false b h = cc
-
-or_right : (a b : Bool) → b ≡ true → (a || b) ≡ true
-or_right true b h = refl
-or_right false b h = h
 
 or_false : (a : Bool) → (a || false) ≡ true → a ≡ true
 or_false true h = refl

@@ -1,11 +1,13 @@
 -- The place of a name in a list that is seen through a function, and in two lists joined.
-use Rattle.std.proofs.Common.{◌≡◌, ℕ, zero, suc, ◌+◌, ◌<◌, Bool, true, false, cond, List, [], ◌∷◌, ◌++◌, length, map, Option, Some, None, refl, sym, subst, ap, ap₂, ◌∙◌, arith, ltb}
+use Rattle.std.proofs.Common.{◌≡◌, ℕ, zero, suc, ◌+◌, ◌<◌, Bool, true, false, cond, List, [], ◌∷◌, ◌++◌, length, map, take, Option, Some, None, refl, sym, subst, ap, ap₂, ◌∙◌, arith, ltb}
 use Prim.Native.Nat.compare
 use Rattle.std.specs.Prelude.{not, nat_lt, ◌||◌, option_map, is_some, IfSome}
 use Rattle.std.specs.List.{prefix_len, position_or_len, position, list_any}
 use Rattle.std.proofs.lemmas.List.{length-map, map-id}
 use Rattle.std.proofs.lemmas.Bool.{lt-ltb, ltb-true}
+use Rattle.std.proofs.lemmas.Bool.Decides.{nat_tests}
 use Rattle.std.proofs.lemmas.Option.{cond_some}
+use Rattle.samoa_grammar.proofs.Lists.{list_any-map}
 use Rattle.samoa_names.specs.Names.{first_number}
 
 prefix_len-map : {X Y : Type 0} (p : Y → Bool) (f : X → Y) (xs : List X) → prefix_len p (map f xs) ≡ prefix_len (λ x. p (f x)) xs
@@ -15,10 +17,6 @@ prefix_len-map p f (x ∷ xs) = ap (λ n. cond (p (f x)) (1 + n) 0) (prefix_len-
 pub position-map : {X Y : Type 0} (p : Y → Bool) (f : X → Y) (xs : List X) → position p (map f xs) ≡ position (λ x. p (f x)) xs
 position-map p f xs =
     ap₂ (λ n len. cond (nat_lt n len) (Some n) None) (prefix_len-map (λ y. not (p y)) f xs) (length-map xs f)
-
-pub list_any-map : {X Y : Type 0} (p : Y → Bool) (f : X → Y) (xs : List X) → list_any p (map f xs) ≡ list_any (λ x. p (f x)) xs
-list_any-map p f [] = refl
-list_any-map p f (x ∷ xs) = ap (λ b. p (f x) || b) (list_any-map p f xs)
 
 pub ruleset same_names = (map-id)
 
@@ -104,3 +102,25 @@ some_case false (Some i) = refl
 pub position_there : {X : Type 0} (p : X → Bool) (xs : List X) → is_some (position p xs) ≡ list_any p xs
 position_there p [] = refl
 position_there p (x ∷ xs) = ap is_some (position-cons p x xs) ∙ some_case (p x) (position p xs) ∙ ap (λ b. p x || b) (position_there p xs)
+
+-- ---- items before a place
+
+abbrev pub is_below : ℕ → Option ℕ → Bool
+is_below k None = false
+is_below k (Some i) = nat_lt i k
+
+below_none : (o : Option ℕ) → false ≡ is_below 0 o
+below_none None = refl
+below_none (Some i) = grind (arith, nat_tests)
+
+below_step : (b : Bool) (o : Option ℕ) (k : ℕ) → (b || is_below k o) ≡ is_below (suc k) (cond b (Some 0) (option_map suc o))
+below_step true o k = grind (arith, nat_tests)
+below_step false None k = refl
+below_step false (Some i) k = grind (arith, nat_tests)
+
+-- an item passes before a place exactly where the first that passes stands there
+pub below_first : {X : Type 0} (p : X → Bool) (xs : List X) (k : ℕ) → list_any p (take k xs) ≡ is_below k (position p xs)
+below_first p xs zero = below_none (position p xs)
+below_first p [] (suc k) = refl
+below_first p (x ∷ xs) (suc k) =
+    ap (λ b. p x || b) (below_first p xs k) ∙ below_step (p x) (position p xs) k ∙ ap (is_below (suc k)) (sym (position-cons p x xs))

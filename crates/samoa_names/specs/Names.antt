@@ -1,17 +1,9 @@
 -- The names of a script's events.
-use Rattle.std.specs.Prelude.{◌≡◌, ℕ, Bool, true, ◌&&◌, not, List, [], ◌∷◌, map, bytes_eq, Option, Some, None, option_map, if◌then◌else◌}
-use Rattle.std.specs.List.{list_any, position}
+use Rattle.std.specs.Prelude.{ℕ, Bool, List, map, bytes_eq, Option, Some, None, option_map, if◌then◌else◌}
+use Rattle.std.specs.List.{position}
 use Rattle.samoa_model.specs.declared.ids.EventId.{EventId}
 use Rattle.samoa_model.specs.declared.script.EventDef.{EventDef}
 use Rattle.samoa_model.specs.declared.script.Script.{Script}
-
--- no name stands twice
-abbrev pub are_distinct : {X : Type 0} → (X → List ℕ) → List X → Bool
-are_distinct name [] = true
-are_distinct name (x ∷ xs) = not (list_any (λ y. bytes_eq (name x) (name y)) xs) && are_distinct name xs
-
-abbrev pub HasDistinctEvents : Script → Type 0
-HasDistinctEvents script = are_distinct (λ (e : EventDef). e.name) script.events ≡ true
 
 abbrev pub event_names : Script → List (List ℕ)
 event_names script = map (λ (e : EventDef). e.name) script.events

@@ -1,5 +1,5 @@
 //! The numbers of names in a list of them.
-ghost use Rattle.std.specs.Prelude.{◌≡◌, ℕ, List, ◌<◌, length, bytes_eq, IfOk, IfSome, OnOk};
+ghost use Rattle.std.specs.Prelude.{◌≡◌, ℕ, List, ◌<◌, length, take, bytes_eq, IfOk, IfSome, OnOk};
 ghost use Rattle.std.specs.List.{list_any, position};
 ghost use Rattle.std.specs.HashMap.{get_by_text};
 ghost use Rattle.samoa_names.specs.Names.{first_number};
@@ -37,6 +37,13 @@ impl NameIndex {
         Ok(NameIndex { names, firsts })
     }
 
+    /// The names.
+    pub fn names(&self) -> &[Name]
+        ensures { result.now ≡ self.now }
+    {
+        self.names.as_slice()
+    }
+
     /// The number of a name, which is its first place: none exactly for a name that isn't in the list. It takes no memory.
     pub fn find(&self, name: &str) -> Option<usize>
         ensures value { result ≡ position (bytes_eq name.now) self.now }
@@ -52,12 +59,23 @@ impl NameIndex {
     {
         self.find(name).is_some()
     }
+
+    /// Whether a name stands in the list before a place. It takes no memory.
+    #[tactic(auto, using(crate::proofs::Positions::below_first))]
+    pub fn stands_before(&self, name: &str, place: usize) -> bool
+        ensures { result ≡ list_any (bytes_eq name.now) (take place self.now) }
+    {
+        match self.find(name) {
+            Some(first) => first < place,
+            None => false,
+        }
+    }
 }
 
 fn first_places(alloc: Global, names: &[Name]) -> Result<IndexMap<String, usize>, NoMemory>
     ensures { IfOk result (λ m. (q : List ℕ) → get_by_text m q ≡ position (bytes_eq q) names.now) }
 {
-    let mut firsts = IndexMap::new(alloc);
+    let mut firsts = IndexMap::with_capacity(alloc, names.len())?;
     for (place, name) in names.iter().enumerate() {
         add(alloc, &mut firsts, name.as_str(), place)?;
     }

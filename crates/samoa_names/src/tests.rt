@@ -1,47 +1,30 @@
-ghost use Rattle.std.specs.Prelude.{◌≡◌, ◌≤◌, length, IfOk};
-ghost use Rattle.samoa_names.specs.Names.{HasDistinctEvents};
-
-use crate::EventNames;
-use samoa_model::{EventDef, EventId, Listed, Name, NoMemory, Script};
+use crate::NameIndex;
+use samoa_model::Name;
 use std::alloc::Global;
 use std::test::Fail;
 
-fn event(alloc: Global, name: Name) -> EventDef
-    ensures { result.name ≡ name }
-{
-    EventDef {
-        name,
-        decl: 0,
-        handlers: Listed::from_vec(Vec::new(alloc)),
+/// Three names, of which one stands twice.
+fn names(alloc: Global) -> Result<NameIndex, Fail> {
+    let mut names = Vec::new(alloc);
+    for text in ["go", "halt", "go", "stop"] {
+        names.push(Name::new(text))?;
     }
-}
-
-fn script(alloc: Global) -> Result<Script, NoMemory>
-    ensures distinct { IfOk result HasDistinctEvents }
-    ensures few { IfOk result (λ s. length s.events ≤ 64) }
-{
-    let mut events = Vec::new(alloc);
-    events.push(event(alloc, Name::new("go")))?;
-    events.push(event(alloc, Name::new("halt")))?;
-    Ok(Script {
-        nodes: 1,
-        ticks: 1,
-        micros: Listed::from_vec(Vec::new(alloc)),
-        decls: Listed::from_vec(Vec::new(alloc)),
-        events: Listed::from_vec(events),
-        changes: Listed::from_vec(Vec::new(alloc)),
-        does: Listed::from_vec(Vec::new(alloc)),
-        losses: Listed::from_vec(Vec::new(alloc)),
-        crashes: Listed::from_vec(Vec::new(alloc)),
-    })
+    Ok(NameIndex::new(alloc, names)?)
 }
 
 #[test]
-fn finds_events(rt: HostRuntime) -> Result<(), Fail> {
-    let alloc = rt.alloc();
-    let names = EventNames::new(alloc, &script(alloc)?)?;
-    assert_eq!(rt; names.find("halt"), Some(EventId(1)));
-    assert_eq!(rt; names.find("go"), Some(EventId(0)));
-    assert_eq!(rt; names.find("hal"), None);
+fn finds_first_places(rt: HostRuntime) -> Result<(), Fail> {
+    let names = names(rt.alloc())?;
+    let cases = [
+        ("go", Some(0), true),
+        ("halt", Some(1), true),
+        ("stop", Some(3), false),
+        ("hal", None, false),
+    ];
+    for (name, place, before) in cases {
+        assert_eq!(rt; names.find(name), place, "{name}");
+        assert_eq!(rt; names.contains(name), place.is_some(), "{name}");
+        assert_eq!(rt; names.stands_before(name, 2), before, "{name}");
+    }
     Ok(())
 }

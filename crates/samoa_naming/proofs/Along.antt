@@ -6,10 +6,7 @@ use Rattle.samoa_form.specs.declared.stop.Stop.{Stop}
 use Rattle.samoa_form.specs.declared.stop.Stop.TheVariants as stops
 use Rattle.samoa_form.specs.Reads.{Stops}
 use Rattle.samoa_grammar.specs.Walks.{◌then◌, first_along}
-
-pub then_none : (a b : Option WalkFault) → (a then b) ≡ None → (a ≡ None) × (b ≡ None)
-then_none None b h = (refl, h)
-then_none (Some f) b h = cc
+use Rattle.samoa_grammar.proofs.Chains.{then_none}
 
 -- an item that fails after items that pass
 pub refused_item : {X : Type 0} (fault : X → Option WalkFault) (xs : List X) (i : ℕ) (x : X) (e : WalkFault) → i < length xs → x ≡ get_or xs i x

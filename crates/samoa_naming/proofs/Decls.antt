@@ -22,7 +22,8 @@ use Rattle.samoa_grammar.specs.Meaning.{number_in_names, micros_named, no_micro_
 use Rattle.samoa_grammar.specs.Passes.{twice, body_twice, among, micro_names, handler_unknown, body_unknown, vertices_fault, twice_fault, unknown_fault, totals_fault}
 use Rattle.samoa_form.specs.Limits.{HasBodyLimits, HasDeclLimits, HasLimits}
 use Rattle.samoa_naming.specs.Routes.{ends_of}
-use Rattle.samoa_naming.proofs.Along.{then_none}
+use Rattle.samoa_grammar.proofs.Chains.{then_none}
+use Rattle.samoa_grammar.proofs.Lists.{map_map}
 use Rattle.samoa_naming.proofs.Passed.{along_all, bodies_apart, bodies_defined, vertices_few}
 use Rattle.samoa_naming.proofs.Sizes.{when_fails}
 use Rattle.samoa_naming.proofs.Numbers.{number_below, handler_below, handler_there}
@@ -43,10 +44,6 @@ set_in x names many apart known =
           (λ k d below. subst (λ n. number_in_names (micros_named x) (get_or names k d) < n) (micros_many x) (number_below (micros_named x) (get_or names k d) (known k d below)));
       apart = numbers_apart (micros_named x) names apart known;
     }
-
-map_map : {X Y Z : Type 0} (g : Y → Z) (f : X → Y) (xs : List X) → map g (map f xs) ≡ map (λ x. g (f x)) xs
-map_map g f [] = refl
-map_map g f (x ∷ xs) = ap (λ ys. g (f x) ∷ ys) (map_map g f xs)
 
 bound_in : (x : Draft) (bounds : List BoundDraft) → (1 ≤ length bounds) × (length bounds ≤ 24) → twice (map (λ (b : BoundDraft). b.micro) bounds) ≡ None → All (λ (b : BoundDraft). among (micro_names x) b.micro ≡ None) bounds
     → IsSetOf (script_of x) (map (λ (b : ℕ × ℕ). b.0) (map (λ (b : BoundDraft). (number_in_names (micros_named x) b.micro, b.calls)) bounds))

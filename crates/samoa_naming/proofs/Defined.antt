@@ -25,17 +25,12 @@ use Rattle.samoa_grammar.specs.Names.{is_dot, has_dot, micro_part, handler_part,
 use Rattle.samoa_grammar.specs.Meaning.{number_in_names, handler_names, no_micro_draft, handler_in, handler_of, event_named, micro_meant, decl_meant, event_meant, change_meant, script_of}
 use Rattle.samoa_grammar.specs.Passes.{among, micro_names, event_names, handler_unknown}
 use Rattle.samoa_grammar.proofs.Dedup.{equal_numbers}
+use Rattle.samoa_grammar.proofs.Lists.{name_at}
 use Rattle.samoa_naming.proofs.Sizes.{when_passes}
 use Rattle.samoa_naming.proofs.Apart.{number_back}
 use Rattle.samoa_naming.proofs.Decls.{names_kept}
 
 -- ---- names of a script
-
--- the name at a number
-name_at : {Y : Type 0} (g : Y → List ℕ) (d : Y) → g d ≡ [] → (ys : List Y) (i : ℕ) → g (get_or ys i d) ≡ get_or (map g ys) i []
-name_at g d none [] i = none
-name_at g d none (y ∷ ys) zero = refl
-name_at g d none (y ∷ ys) (suc i) = name_at g d none ys i
 
 pub micros_kept : (x : Draft) (ms : List MicroDraft) → map (λ (m : MicroDef). m.name) (map (micro_meant x) ms) ≡ map (λ (m : MicroDraft). m.name) ms
 unfolding micro_meant
@@ -118,9 +113,6 @@ dot_place t h = ap (λ b. cond b (Some (position_or_len is_dot t)) None) h
 
 dot_is : (c : ℕ) → is_dot c ≡ true → c ≡ 46
 dot_is c h = equal_numbers c 46 h
-
-below_from : (a b : ℕ) → nat_lt a b ≡ true → a < b
-below_from a b h = grind (arith, nat_tests)
 
 parts_are : (t : List ℕ) → has_dot t ≡ true → (micro_part t ++ codes ".") ++ handler_part t ≡ t
 parts_are t h =

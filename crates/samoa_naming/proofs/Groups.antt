@@ -1,15 +1,16 @@
 -- The passes by their groups.
-use Rattle.std.proofs.Common.{◌≡◌, ℕ, List, Option, Some, None, map, get_or, bytes_eq, codes, refl, ap}
+use Rattle.std.proofs.Common.{◌≡◌, ℕ, List, [], ◌∷◌, Option, Some, None, map, get_or, bytes_eq, codes, refl, ap}
 use Rattle.std.specs.Prelude.{option_map, option_and_then}
 use Rattle.std.specs.List.{position}
 use Rattle.samoa_model.specs.declared.setup.Kind.TheVariants.{Prog, Link, Fd, Rbcast, Cons, Abcast, Seqcast, Repl, Views}
+use Rattle.samoa_grammar.specs.declared.fault.WalkFault.{WalkFault}
 use Rattle.samoa_grammar.specs.declared.draft.Draft.{Draft}
 use Rattle.samoa_grammar.specs.declared.draft.MicroDraft.{MicroDraft}
 use Rattle.samoa_grammar.specs.Names.{micro_part, handler_part}
 use Rattle.samoa_grammar.specs.Meaning.{no_micro_draft, handler_in, handler_names}
-use Rattle.samoa_grammar.specs.Walks.{◌then◌}
-use Rattle.samoa_grammar.specs.Passes.{twice_fault, unknown_fault, totals_fault}
-use Rattle.samoa_naming.specs.Groups.{handler_place, handler_outside, micro_outside, micros_twice, handlers_twice, decls_twice, events_twice, changes_twice, bodies_twice, bound_twice, rebound_twice, tables_twice, micros_unknown, bodies_unknown, events_unknown, changes_unknown, causes_unknown, ports_missing, codes_outside, vertices_over, does_outside, losses_outside, crashes_outside, ticks_over, kinds_over, kind_over}
+use Rattle.samoa_grammar.specs.Walks.{◌then◌, first_along}
+use Rattle.samoa_grammar.specs.Passes.{twice, twice_fault, unknown_fault, totals_fault}
+use Rattle.samoa_naming.specs.Groups.{own_names, handler_place, handler_outside, micro_outside, micros_twice, handlers_twice, decls_twice, events_twice, changes_twice, bodies_twice, bound_twice, rebound_twice, tables_twice, micros_unknown, bodies_unknown, events_unknown, changes_unknown, causes_unknown, ports_missing, codes_outside, vertices_over, does_outside, losses_outside, crashes_outside, ticks_over, kinds_over, kind_over}
 
 pub twice_by_groups : (x : Draft) → twice_fault x ≡ (micros_twice x then handlers_twice x then decls_twice x then events_twice x then changes_twice x then bodies_twice x then bound_twice x then rebound_twice x then tables_twice x)
 unfolding twice_fault micros_twice handlers_twice decls_twice events_twice changes_twice bodies_twice bound_twice rebound_twice tables_twice
@@ -41,3 +42,13 @@ pub handler_lost : (micros : List MicroDraft) (name : List ℕ) → position (by
 handler_lost micros name lost = handler_by_parts micros name None lost
 
 pub ruleset handlers_by_parts = (handler_found, handler_lost)
+
+-- ---- handlers that stand twice
+
+along_map : {X Y : Type 0} (fault : Y → Option WalkFault) (f : X → Y) (xs : List X) → first_along (λ x. fault (f x)) xs ≡ first_along fault (map f xs)
+along_map fault f [] = refl
+along_map fault f (x ∷ xs) = ap (λ o. fault (f x) then o) (along_map fault f xs)
+
+pub handlers_by_lists : (x : Draft) → handlers_twice x ≡ first_along twice (map own_names x.micros)
+unfolding handlers_twice
+handlers_by_lists x = along_map twice own_names x.micros

@@ -15,7 +15,7 @@ use Rattle.samoa_grammar.specs.declared.draft.Draft.{Draft}
 use Rattle.samoa_grammar.specs.Walks.{◌then◌, first_along}
 use Rattle.samoa_grammar.specs.Passes.{twice, body_twice, micro_unknown, body_unknown, event_unknown, change_unknown, cause_unknown, ports_fault, vertices_fault, node_fault, loss_total, tick_fault, kinds_fault, twice_fault, unknown_fault, totals_fault}
 use Rattle.samoa_naming.specs.Groups.{micros_twice, handlers_twice, decls_twice, events_twice, changes_twice, bodies_twice, bound_twice, rebound_twice, tables_twice, micros_unknown, bodies_unknown, events_unknown, changes_unknown, causes_unknown, ports_missing, codes_outside, vertices_over, does_outside, losses_outside, crashes_outside, ticks_over, kinds_over, micro_outside}
-use Rattle.samoa_naming.proofs.Along.{then_none}
+use Rattle.samoa_grammar.proofs.Chains.{then_none, then_five}
 use Rattle.samoa_naming.proofs.Groups.{twice_by_groups, unknown_by_groups, totals_by_groups}
 
 -- each item passes of a list with no fault
@@ -24,14 +24,6 @@ along_all fault [] h = All-nil (λ x. fault x ≡ None)
 along_all fault (x ∷ xs) h =
     let parts = then_none (fault x) (first_along fault xs) h in
     All-cons (λ y. fault y ≡ None) x xs parts.0 (along_all fault xs parts.1)
-
-parts_5 : (a b c d e : Option WalkFault) → (a then b then c then d then e) ≡ None → (a ≡ None) × (b ≡ None) × (c ≡ None) × (d ≡ None) × (e ≡ None)
-parts_5 a b c d e all =
-    let p0 = then_none a (b then c then d then e) all in
-    let p1 = then_none b (c then d then e) p0.1 in
-    let p2 = then_none c (d then e) p1.1 in
-    let p3 = then_none d (e) p2.1 in
-    (p0.0, p1.0, p2.0, p3.0, p3.1)
 
 parts_8 : (a b c d e f g h : Option WalkFault) → (a then b then c then d then e then f then g then h) ≡ None → (a ≡ None) × (b ≡ None) × (c ≡ None) × (d ≡ None) × (e ≡ None) × (f ≡ None) × (g ≡ None) × (h ≡ None)
 parts_8 a b c d e f g h all =
@@ -60,7 +52,7 @@ twice_parts : (x : Draft) → twice_fault x ≡ None → (micros_twice x ≡ Non
 twice_parts x h = parts_9 (micros_twice x) (handlers_twice x) (decls_twice x) (events_twice x) (changes_twice x) (bodies_twice x) (bound_twice x) (rebound_twice x) (tables_twice x) (sym (twice_by_groups x) ∙ h)
 
 unknown_parts : (x : Draft) → unknown_fault x ≡ None → (micros_unknown x ≡ None) × (bodies_unknown x ≡ None) × (events_unknown x ≡ None) × (changes_unknown x ≡ None) × (causes_unknown x ≡ None)
-unknown_parts x h = parts_5 (micros_unknown x) (bodies_unknown x) (events_unknown x) (changes_unknown x) (causes_unknown x) (sym (unknown_by_groups x) ∙ h)
+unknown_parts x h = then_five (micros_unknown x) (bodies_unknown x) (events_unknown x) (changes_unknown x) (causes_unknown x) (sym (unknown_by_groups x) ∙ h)
 
 totals_parts : (x : Draft) → totals_fault x ≡ None → (ports_missing x ≡ None) × (codes_outside x ≡ None) × (vertices_over x ≡ None) × (does_outside x ≡ None) × (losses_outside x ≡ None) × (crashes_outside x ≡ None) × (ticks_over x ≡ None) × (kinds_over x ≡ None)
 totals_parts x h = parts_8 (ports_missing x) (codes_outside x) (vertices_over x) (does_outside x) (losses_outside x) (crashes_outside x) (ticks_over x) (kinds_over x) (sym (totals_by_groups x) ∙ h)

@@ -18,7 +18,7 @@ use Rattle.samoa_grammar.specs.Walks.{first_along}
 use Rattle.samoa_grammar.specs.Meaning.{number_in_names, event_named, change_named, handler_of, micro_meant, decl_meant, event_meant, table_meant, change_meant, cause_meant, do_meant, loss_meant, crash_meant, script_of}
 use Rattle.samoa_grammar.specs.Passes.{among, decl_names, event_names, change_names, handler_unknown, micro_unknown, event_unknown, table_unknown, change_unknown, cause_unknown, ports_fault, node_fault, tick_fault, twice_fault, unknown_fault, totals_fault}
 use Rattle.samoa_form.specs.Limits.{HasMicroLimits, HasDeclLimits, HasEventLimits, HasTableLimits, HasChangeLimits, HasDoLimits, HasLimits}
-use Rattle.samoa_naming.proofs.Along.{then_none}
+use Rattle.samoa_grammar.proofs.Chains.{then_none}
 use Rattle.samoa_naming.proofs.Passed.{along_all, micros_defined, events_defined, changes_defined, causes_defined, ports_there, does_inside, ticks_inside}
 use Rattle.samoa_naming.proofs.Sizes.{node_below, tick_upto}
 use Rattle.samoa_naming.proofs.Numbers.{number_below}

@@ -10,7 +10,7 @@ use Rattle.samoa_grammar.specs.declared.draft.Draft.{Draft}
 use Rattle.samoa_grammar.specs.Passes.{node_fault, loss_total, tick_fault, totals_fault}
 use Rattle.samoa_form.specs.Limits.{HasLimits}
 use Rattle.samoa_naming.specs.Sizes.{FitsDo, FitsLoss, FitsCrash}
-use Rattle.samoa_naming.proofs.Along.{then_none}
+use Rattle.samoa_grammar.proofs.Chains.{then_none}
 use Rattle.samoa_naming.proofs.Passed.{does_inside, losses_inside, crashes_inside, ticks_inside}
 
 pub ruleset mapped_lists = (length-map)

@@ -4,7 +4,7 @@ use Rattle.std.specs.List.{list_any}
 use Rattle.std.proofs.lemmas.List.{take_more, drop_more, map-append}
 use Rattle.samoa_grammar.specs.declared.fault.WalkFault.TheVariants.{Twice}
 use Rattle.samoa_grammar.specs.Passes.{twice_after}
-use Rattle.samoa_names.proofs.Positions.{list_any-map}
+use Rattle.samoa_grammar.proofs.Lists.{list_any-map}
 
 module _ {X : Type 0} (f : X → List ℕ) (xs : List X) (i : ℕ) (x : X) (below : i < length xs) (here : x ≡ get_or xs i x) where
   rest : map f (drop i xs) ≡ f x ∷ map f (drop (i + 1) xs)

@@ -32,7 +32,7 @@ use Rattle.samoa_grammar.proofs.Dedup.{same_handlers, same_edges, place_back, de
 use Rattle.samoa_grammar.proofs.Apart.{apart_map, twice_apart, dedup_apart}
 use Rattle.samoa_form.specs.Limits.{HasMicroLimits, HasEventLimits, HasTableLimits, HasChangeLimits, HasLimits}
 use Rattle.samoa_naming.specs.Routes.{ends_of}
-use Rattle.samoa_naming.proofs.Along.{then_none}
+use Rattle.samoa_grammar.proofs.Chains.{then_none}
 use Rattle.samoa_naming.proofs.Passed.{along_all, events_defined, changes_defined, micros_apart, handlers_apart, decls_apart, events_apart, changes_apart, lists_apart, rebound_apart, tables_apart}
 use Rattle.samoa_naming.proofs.Defined.{micros_kept, decls_kept, events_kept, changes_kept, event_back_is, handler_back_is}
 use Rattle.samoa_naming.proofs.Range.{script_in_range}

@@ -2,6 +2,7 @@
 use Rattle.std.proofs.Common.{◌≡◌, ℕ, ◌<◌, ◌≤◌, Bool, true, false, List, [], ◌∷◌, ◌++◌, length, refl, sym, ap, ◌∙◌, subst}
 use Rattle.std.specs.Prelude.{◌||◌, unwrap_or}
 use Rattle.std.specs.List.{All, list_any, flat_map}
+use Rattle.std.proofs.lemmas.Bool.{or_left, or_right}
 use Rattle.std.proofs.lemmas.List.Elements.{All-nil, All-cons, All-head, All-tail}
 use Rattle.std.proofs.lemmas.List.Folds.{list_any-append}
 use Rattle.samoa_model.specs.declared.ids.HandlerId.{HandlerId}
@@ -32,14 +33,6 @@ edges_few es = subst (λ l. length l ≤ length es) (sym (edges_is [] es)) (leng
 
 once_has : (hs : List HandlerId) (h : HandlerId) → has hs h ≡ true → has (once hs) h ≡ true
 once_has hs h some = ap (list_any (same_handler h)) (once_is [] hs) ∙ dedup_kept same_handler same_handlers [] hs h ∙ some
-
-or_right : (a b : Bool) → b ≡ true → (a || b) ≡ true
-or_right true b h = refl
-or_right false b h = h
-
-or_left : (a b : Bool) → a ≡ true → (a || b) ≡ true
-or_left true b h = refl
-or_left false b h = cc
 
 each_of : (Q : HandlerId → Type 0) (hs : List HandlerId) → ((h : HandlerId) → has hs h ≡ true → Q h) → All Q hs
 each_of Q [] q = All-nil Q

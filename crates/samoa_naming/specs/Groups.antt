@@ -19,6 +19,10 @@ use Rattle.samoa_grammar.specs.Passes.{twice, body_twice, handler_unknown, micro
 
 -- ---- handlers
 
+-- the names of the handlers of a microprotocol's script
+abbrev pub own_names : MicroDraft → List (List ℕ)
+own_names m = map (λ (h : CodeDef). h.name) m.handlers
+
 -- the number of a handler of a microprotocol, by its name there
 unfoldable pub handler_place : MicroDraft → List ℕ → Option ℕ
 handler_place m name = position (bytes_eq name) (handler_names m)

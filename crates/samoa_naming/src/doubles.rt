@@ -6,37 +6,40 @@ ghost use Rattle.samoa_grammar.specs.Walks.{first_along};
 ghost use Rattle.samoa_naming.specs.Finds.{Finds};
 ghost use Rattle.samoa_naming.specs.Groups.{micros_twice, handlers_twice, decls_twice, events_twice, changes_twice, bodies_twice, bound_twice, rebound_twice, tables_twice};
 
+use crate::directory::Directory;
+use crate::lookups::each_once;
 use crate::named::no_twice;
 use samoa_form::Stop;
 use samoa_grammar::{BodyDraft, Draft, TableDraft};
 use samoa_model::Name;
+use samoa_names::NameIndex;
 
 #[tactic(auto, unfolding(crate::specs::Groups::micros_twice))]
-fn micros_once(draft: &Draft) -> Result<(), Stop>
+fn micros_once(draft: &Directory) -> Result<(), Stop>
     ensures { Finds result (micros_twice draft.now) }
 {
-    no_twice(draft.micros.as_slice())
+    each_once(draft.micros())
 }
 
 #[tactic(auto, unfolding(crate::specs::Groups::decls_twice))]
-fn decls_once(draft: &Draft) -> Result<(), Stop>
+fn decls_once(draft: &Directory) -> Result<(), Stop>
     ensures { Finds result (decls_twice draft.now) }
 {
-    no_twice(draft.decls.as_slice())
+    each_once(draft.decls())
 }
 
 #[tactic(auto, unfolding(crate::specs::Groups::events_twice))]
-fn events_once(draft: &Draft) -> Result<(), Stop>
+fn events_once(draft: &Directory) -> Result<(), Stop>
     ensures { Finds result (events_twice draft.now) }
 {
-    no_twice(draft.events.as_slice())
+    each_once(draft.events())
 }
 
 #[tactic(auto, unfolding(crate::specs::Groups::changes_twice))]
-fn changes_once(draft: &Draft) -> Result<(), Stop>
+fn changes_once(draft: &Directory) -> Result<(), Stop>
     ensures { Finds result (changes_twice draft.now) }
 {
-    no_twice(draft.changes.as_slice())
+    each_once(draft.changes())
 }
 
 /// That no name of a list of names stands a second time.
@@ -47,14 +50,21 @@ fn names_once(names: &[Name]) -> Result<(), Stop>
     no_twice(names)
 }
 
-#[tactic(auto, using(crate::proofs::Along::along_items), unfolding(crate::specs::Groups::handlers_twice))]
-fn handlers_once(draft: &Draft) -> Result<(), Stop>
-    ensures { Finds result (handlers_twice draft.now) }
+#[tactic(auto, using(crate::proofs::Along::along_items))]
+fn lists_once(lists: &[NameIndex]) -> Result<(), Stop>
+    ensures { Finds result (first_along twice lists.now) }
 {
-    for micro in draft.micros.as_slice() {
-        no_twice(micro.handlers.as_slice())?;
+    for names in lists {
+        each_once(names)?;
     }
     Ok(())
+}
+
+#[tactic(auto, using(crate::proofs::Groups::handlers_by_lists))]
+fn handlers_once(draft: &Directory) -> Result<(), Stop>
+    ensures { Finds result (handlers_twice draft.now) }
+{
+    lists_once(draft.handlers())
 }
 
 fn body_once(body: &BodyDraft) -> Result<(), Stop>
@@ -119,7 +129,7 @@ fn tables_once(draft: &Draft) -> Result<(), Stop>
 
 /// That no name stands twice where names are given, nor in a list that uses names.
 #[tactic(auto, using(crate::proofs::Groups::twice_by_groups))]
-pub fn no_doubles(draft: &Draft) -> Result<(), Stop>
+pub fn no_doubles(draft: &Directory) -> Result<(), Stop>
     ensures { Finds result (twice_fault draft.now) }
 {
     micros_once(draft)?;
@@ -127,8 +137,9 @@ pub fn no_doubles(draft: &Draft) -> Result<(), Stop>
     decls_once(draft)?;
     events_once(draft)?;
     changes_once(draft)?;
-    bodies_once(draft)?;
-    bound_once(draft)?;
-    rebound_once(draft)?;
-    tables_once(draft)
+    let whole = draft.draft();
+    bodies_once(whole)?;
+    bound_once(whole)?;
+    rebound_once(whole)?;
+    tables_once(whole)
 }

@@ -8,13 +8,15 @@ ghost use Rattle.samoa_grammar.specs.Passes.{handler_unknown};
 ghost use Rattle.samoa_grammar.specs.Walks.{first_along};
 ghost use Rattle.samoa_form.specs.Limits.{HasMicroLimits};
 ghost use Rattle.samoa_naming.specs.Finds.{Finds};
-ghost use Rattle.samoa_naming.specs.Groups.{handler_place};
+ghost use Rattle.samoa_naming.specs.Groups.{own_names, handler_place};
 
+use crate::directory::Directory;
 use crate::faults::unknown;
-use crate::named::{is_same, position};
+use crate::named::is_same;
 use samoa_form::Stop;
 use samoa_grammar::MicroDraft;
 use samoa_model::{HandlerId, Kind, MicroId, Name};
+use samoa_names::NameIndex;
 
 /// What stands before the first dot and after it.
 fn parts(text: &str) -> (&str, &str)
@@ -51,30 +53,31 @@ fn place_in_kind(kind: Kind, name: &str) -> Option<usize>
     place(kind.handlers(), name)
 }
 
-/// The number of a handler of a microprotocol.
+/// The number of a handler of a microprotocol, by the names of its own handlers.
 #[tactic(auto, using(samoa_names::proofs::Positions::joined_lists), unfolding(crate::specs::Groups::handler_place))]
-fn index(micro: &MicroDraft, name: &str) -> Option<usize>
-    requires { HasMicroLimits micro.now }
+fn index(own: &NameIndex, micro: &MicroDraft, name: &str) -> Option<usize>
+    requires limits { HasMicroLimits micro.now }
+    requires own { own.now ≡ own_names micro.now }
     ensures value { result ≡ handler_place micro.now name.now }
     ensures below { IfSome result (λ i. i < 32) }
 {
-    let handlers = micro.handlers.as_slice();
-    match position(handlers, name) {
+    match own.find(name) {
         Some(scripted) => Some(scripted),
         None => {
-            let own = place_in_kind(micro.kind, name)?;
-            Some(handlers.len() + own)
+            let place = place_in_kind(micro.kind, name)?;
+            Some(micro.handlers.len() + place)
         }
     }
 }
 
-fn handler_at(micros: &[MicroDraft], micro: usize, name: &str) -> Option<HandlerId>
-    requires few { length micros.now ≤ 24 }
-    requires each { All HasMicroLimits micros.now }
-    requires there { micro < length micros.now }
-    ensures { result ≡ option_map (λ h. record { micro = record { 0 = micro }; index = h }) (handler_place (get_or micros.now micro no_micro_draft) name.now) }
+fn handler_at(draft: &Directory, micro: usize, name: &str) -> Option<HandlerId>
+    requires few { length draft.now.micros ≤ 24 }
+    requires each { All HasMicroLimits draft.now.micros }
+    requires there { micro < length draft.now.micros }
+    ensures { result ≡ option_map (λ h. record { micro = record { 0 = micro }; index = h }) (handler_place (get_or draft.now.micros micro no_micro_draft) name.now) }
 {
-    let handler = index(&micros[micro], name)?;
+    let own = &draft.handlers()[micro];
+    let handler = index(own, &draft.draft().micros.as_slice()[micro], name)?;
     Some(HandlerId {
         micro: MicroId(micro as u32),
         index: handler as u32,
@@ -83,23 +86,23 @@ fn handler_at(micros: &[MicroDraft], micro: usize, name: &str) -> Option<Handler
 
 /// The handler that a name names, if there is one.
 #[tactic(auto, using(crate::proofs::Groups::handlers_by_parts))]
-pub fn handler_in(micros: &[MicroDraft], name: &Name) -> Option<HandlerId>
-    requires few { length micros.now ≤ 24 }
-    requires each { All HasMicroLimits micros.now }
-    ensures { result ≡ named_in micros.now name.now }
+pub fn handler_in(draft: &Directory, name: &Name) -> Option<HandlerId>
+    requires few { length draft.now.micros ≤ 24 }
+    requires each { All HasMicroLimits draft.now.micros }
+    ensures { result ≡ named_in draft.now.micros name.now }
 {
     let (micro_name, handler_name) = parts(name.as_str());
-    let micro = position(micros, micro_name)?;
-    handler_at(micros, micro, handler_name)
+    let micro = draft.micros().find(micro_name)?;
+    handler_at(draft, micro, handler_name)
 }
 
 /// The handler that a name names.
-pub fn handler(micros: &[MicroDraft], name: &Name) -> HandlerId
-    requires few { length micros.now ≤ 24 }
-    requires each { All HasMicroLimits micros.now }
-    ensures { result ≡ handler_of micros.now name.now }
+pub fn handler(draft: &Directory, name: &Name) -> HandlerId
+    requires few { length draft.now.micros ≤ 24 }
+    requires each { All HasMicroLimits draft.now.micros }
+    ensures { result ≡ handler_of draft.now.micros name.now }
 {
-    match handler_in(micros, name) {
+    match handler_in(draft, name) {
         Some(handler) => handler,
         None => HandlerId {
             micro: MicroId(0),
@@ -109,12 +112,12 @@ pub fn handler(micros: &[MicroDraft], name: &Name) -> HandlerId
 }
 
 /// That a name names a handler.
-pub fn handler_known(micros: &[MicroDraft], name: &Name) -> Result<(), Stop>
-    requires few { length micros.now ≤ 24 }
-    requires each { All HasMicroLimits micros.now }
-    ensures { Finds result (handler_unknown micros.now name.now) }
+pub fn handler_known(draft: &Directory, name: &Name) -> Result<(), Stop>
+    requires few { length draft.now.micros ≤ 24 }
+    requires each { All HasMicroLimits draft.now.micros }
+    ensures { Finds result (handler_unknown draft.now.micros name.now) }
 {
-    match handler_in(micros, name) {
+    match handler_in(draft, name) {
         Some(_) => Ok(()),
         None => Err(unknown(name)),
     }
@@ -122,13 +125,13 @@ pub fn handler_known(micros: &[MicroDraft], name: &Name) -> Result<(), Stop>
 
 /// That each name names a handler.
 #[tactic(auto, using(crate::proofs::Along::along_items))]
-pub fn handlers_known(micros: &[MicroDraft], names: &[Name]) -> Result<(), Stop>
-    requires few { length micros.now ≤ 24 }
-    requires each { All HasMicroLimits micros.now }
-    ensures { Finds result (first_along (handler_unknown micros.now) names.now) }
+pub fn handlers_known(draft: &Directory, names: &[Name]) -> Result<(), Stop>
+    requires few { length draft.now.micros ≤ 24 }
+    requires each { All HasMicroLimits draft.now.micros }
+    ensures { Finds result (first_along (handler_unknown draft.now.micros) names.now) }
 {
     for name in names {
-        handler_known(micros, name)?;
+        handler_known(draft, name)?;
     }
     Ok(())
 }

@@ -7,6 +7,7 @@ mod doubles;
 mod faults;
 mod handlers;
 mod laws;
+mod lookups;
 mod named;
 mod resolving;
 mod routes;
@@ -14,5 +15,6 @@ mod totals;
 mod undefined;
 
 pub use checking::check_names;
+pub use directory::Directory;
 pub use laws::passed_is_valid;
 pub use resolving::resolve;

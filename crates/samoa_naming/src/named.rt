@@ -1,11 +1,10 @@
 //! Lists of parts that have names.
-ghost use Rattle.std.specs.Prelude.{◌≡◌, ◌<◌, ◌≤◌, length, map, bytes_eq, IfSome, Some, None};
-ghost use Rattle.std.specs.List.{list_any, position as place_of};
-ghost use Rattle.samoa_grammar.specs.Passes.{twice as first_twice, among as first_unknown};
-ghost use Rattle.samoa_grammar.specs.Meaning.{number_in_names};
+ghost use Rattle.std.specs.Prelude.{◌≡◌, map, bytes_eq};
+ghost use Rattle.std.specs.List.{list_any};
+ghost use Rattle.samoa_grammar.specs.Passes.{twice as first_twice};
 ghost use Rattle.samoa_naming.specs.Finds.{Finds};
 
-use crate::faults::{twice, unknown};
+use crate::faults::twice;
 use samoa_form::Stop;
 use samoa_grammar::{BoundDraft, ChangeDraft, DeclDraft, EventDraft, MicroDraft, TableDraft};
 use samoa_model::{CodeDef, Name};
@@ -104,45 +103,6 @@ fn is_among<T: Named>(items: &[T], name: &str) -> bool
     ensures { result ≡ list_any (λ item. bytes_eq name.now (T.Named.called item)) items.now }
 {
     items.iter().any(|item| is_called(name, item))
-}
-
-fn place<T: Named>(items: &[T], name: &str) -> Option<usize>
-    ensures value { result ≡ place_of (λ item. bytes_eq name.now (T.Named.called item)) items.now }
-    ensures below { IfSome result (λ i. i < length items.now) }
-{
-    items.iter().position(|item| is_called(name, item))
-}
-
-/// The place of a name among those of a list.
-#[tactic(auto, using(samoa_names::proofs::Positions::seen_lists))]
-pub fn position<T: Named>(items: &[T], name: &str) -> Option<usize>
-    ensures value { result ≡ place_of (bytes_eq name.now) (map T.Named.called items.now) }
-    ensures below { IfSome result (λ i. i < length items.now) }
-{
-    place(items, name)
-}
-
-/// The number of a name in a list that names it.
-pub fn number<T: Named>(items: &[T], name: &Name) -> u32
-    requires { length items.now ≤ 64 }
-    ensures { result ≡ number_in_names (map T.Named.called items.now) name.now }
-{
-    match position(items, name.as_str()) {
-        Some(place) => place as u32,
-        None => 0,
-    }
-}
-
-/// That a name is one of a list.
-#[tactic(auto, using(samoa_names::proofs::Positions::seen_lists))]
-pub fn known<T: Named>(items: &[T], name: &Name) -> Result<(), Stop>
-    ensures { Finds result (first_unknown (map T.Named.called items.now) name.now) }
-{
-    if is_among(items, name.as_str()) {
-        Ok(())
-    } else {
-        Err(unknown(name))
-    }
 }
 
 /// That no name of a list stands a second time.

@@ -10,11 +10,10 @@ ghost use Rattle.samoa_naming.specs.Sizes.{FitsDo, FitsLoss, FitsCrash};
 
 use crate::directory::Directory;
 use crate::handlers::handler;
-use crate::named::number;
 use crate::routes::{edges_once, roots_once, vertex, vertices};
 use samoa_grammar::{
-    BodyDraft, BoundDraft, CauseDraft, ChangeDraft, CrashDraft, DeclDraft, DoDraft, Draft,
-    EdgeDraft, EventDraft, LossDraft, MicroDraft, TableDraft,
+    BodyDraft, BoundDraft, CauseDraft, ChangeDraft, CrashDraft, DeclDraft, DoDraft, EdgeDraft,
+    EventDraft, LossDraft, MicroDraft, TableDraft,
 };
 use samoa_model::{
     Cause, ChangeDef, ChangeId, CrashDef, Decl, DeclDef, DoDef, EventDef, EventId, HandlerId,
@@ -22,67 +21,50 @@ use samoa_model::{
 };
 use std::alloc::Global;
 
-fn event(draft: &Draft, name: &Name) -> EventId
-    requires { length draft.now.events ≤ 64 }
-    ensures { result ≡ event_named draft.now name.now }
-{
-    EventId(number(draft.events.as_slice(), name))
-}
-
-fn change(draft: &Draft, name: &Name) -> ChangeId
-    requires { length draft.now.changes ≤ 16 }
-    ensures { result ≡ change_named draft.now name.now }
-{
-    ChangeId(number(draft.changes.as_slice(), name))
-}
-
-fn micro(draft: &Draft, name: &Name) -> u32
-    requires { length draft.now.micros ≤ 24 }
-    ensures { result ≡ number_in_names (micros_named draft.now) name.now }
-{
-    number(draft.micros.as_slice(), name)
-}
-
-fn events_of(alloc: Global, draft: &Draft, names: &[Name]) -> Result<Listed<EventId>, NoMemory>
+fn events_of(alloc: Global, draft: &Directory, names: &[Name]) -> Result<Listed<EventId>, NoMemory>
     requires { length draft.now.events ≤ 64 }
     ensures { IfOk result (λ l. l ≡ map (event_named draft.now) names.now) }
 {
     let mut found = Vec::new(alloc);
     for name in names {
-        found.push(event(draft, name))?;
+        found.push(draft.event(name))?;
     }
     Ok(Listed::from_vec(found))
 }
 
-fn changes_of(alloc: Global, draft: &Draft, names: &[Name]) -> Result<Listed<ChangeId>, NoMemory>
+fn changes_of(
+    alloc: Global,
+    draft: &Directory,
+    names: &[Name],
+) -> Result<Listed<ChangeId>, NoMemory>
     requires { length draft.now.changes ≤ 16 }
     ensures { IfOk result (λ l. l ≡ map (change_named draft.now) names.now) }
 {
     let mut found = Vec::new(alloc);
     for name in names {
-        found.push(change(draft, name))?;
+        found.push(draft.change(name))?;
     }
     Ok(Listed::from_vec(found))
 }
 
 fn handlers_of(
     alloc: Global,
-    micros: &[MicroDraft],
+    draft: &Directory,
     names: &[Name],
 ) -> Result<Listed<HandlerId>, NoMemory>
-    requires few { length micros.now ≤ 24 }
-    requires each { All HasMicroLimits micros.now }
-    ensures { IfOk result (λ l. l ≡ map (handler_of micros.now) names.now) }
+    requires few { length draft.now.micros ≤ 24 }
+    requires each { All HasMicroLimits draft.now.micros }
+    ensures { IfOk result (λ l. l ≡ map (handler_of draft.now.micros) names.now) }
 {
     let mut found = Vec::new(alloc);
     for name in names {
-        found.push(handler(micros, name))?;
+        found.push(handler(draft, name))?;
     }
     Ok(Listed::from_vec(found))
 }
 
 #[tactic(auto, unfolding(samoa_grammar::specs::Meaning::micro_meant))]
-fn micro_def(alloc: Global, draft: &Draft, micro: &MicroDraft) -> Result<MicroDef, NoMemory>
+fn micro_def(alloc: Global, draft: &Directory, micro: &MicroDraft) -> Result<MicroDef, NoMemory>
     requires events { length draft.now.events ≤ 64 }
     requires changes { length draft.now.changes ≤ 16 }
     ensures { IfOk result (λ m. m ≡ micro_meant draft.now micro.now) }
@@ -100,32 +82,32 @@ fn micro_def(alloc: Global, draft: &Draft, micro: &MicroDraft) -> Result<MicroDe
     })
 }
 
-fn micro_defs(alloc: Global, draft: &Draft) -> Result<Listed<MicroDef>, NoMemory>
+fn micro_defs(alloc: Global, draft: &Directory) -> Result<Listed<MicroDef>, NoMemory>
     requires events { length draft.now.events ≤ 64 }
     requires changes { length draft.now.changes ≤ 16 }
     ensures { IfOk result (λ l. l ≡ map (micro_meant draft.now) draft.now.micros) }
 {
     let mut found = Vec::new(alloc);
-    for micro in draft.micros.as_slice() {
+    for micro in draft.draft().micros.as_slice() {
         found.push(micro_def(alloc, draft, micro)?)?;
     }
     Ok(Listed::from_vec(found))
 }
 
-fn set(alloc: Global, draft: &Draft, names: &[Name]) -> Result<Listed<u32>, NoMemory>
+fn set(alloc: Global, draft: &Directory, names: &[Name]) -> Result<Listed<u32>, NoMemory>
     requires { length draft.now.micros ≤ 24 }
     ensures { IfOk result (λ l. l ≡ map (number_in_names (micros_named draft.now)) names.now) }
 {
     let mut found = Vec::new(alloc);
     for name in names {
-        found.push(micro(draft, name))?;
+        found.push(draft.micro(name))?;
     }
     Ok(Listed::from_vec(found))
 }
 
 fn bound(
     alloc: Global,
-    draft: &Draft,
+    draft: &Directory,
     bounds: &[BoundDraft],
 ) -> Result<Listed<(u32, u32)>, NoMemory>
     requires { length draft.now.micros ≤ 24 }
@@ -133,7 +115,7 @@ fn bound(
 {
     let mut found = Vec::new(alloc);
     for bound in bounds {
-        found.push((micro(draft, &bound.micro), bound.calls))?;
+        found.push((draft.micro(&bound.micro), bound.calls))?;
     }
     Ok(Listed::from_vec(found))
 }
@@ -155,19 +137,19 @@ fn root_numbers(
 
 fn route(
     alloc: Global,
-    micros: &[MicroDraft],
+    draft: &Directory,
     roots: &[Name],
     edges: &[EdgeDraft],
 ) -> Result<Decl, NoMemory>
-    requires few { length micros.now ≤ 24 }
-    requires each { All HasMicroLimits micros.now }
-    requires vertices { length (vertices_of micros.now roots.now edges.now) ≤ 32 }
-    ensures { IfOk result (λ d. d ≡ route_of micros.now roots.now edges.now (vertices_of micros.now roots.now edges.now)) }
+    requires few { length draft.now.micros ≤ 24 }
+    requires each { All HasMicroLimits draft.now.micros }
+    requires vertices { length (vertices_of draft.now.micros roots.now edges.now) ≤ 32 }
+    ensures { IfOk result (λ d. d ≡ route_of draft.now.micros roots.now edges.now (vertices_of draft.now.micros roots.now edges.now)) }
 {
-    let vertices = vertices(alloc, micros, roots, edges)?;
-    let first = roots_once(alloc, micros, roots)?;
+    let vertices = vertices(alloc, draft, roots, edges)?;
+    let first = roots_once(alloc, draft, roots)?;
     let roots = root_numbers(alloc, vertices.as_slice(), first.as_slice())?;
-    let edges = edges_once(alloc, micros, vertices.as_slice(), edges)?;
+    let edges = edges_once(alloc, draft, vertices.as_slice(), edges)?;
     Ok(Decl::Route {
         vertices: Listed::from_vec(vertices),
         roots,
@@ -175,7 +157,7 @@ fn route(
     })
 }
 
-fn body(alloc: Global, draft: &Draft, body: &BodyDraft) -> Result<Decl, NoMemory>
+fn body(alloc: Global, draft: &Directory, body: &BodyDraft) -> Result<Decl, NoMemory>
     requires few { length draft.now.micros ≤ 24 }
     requires each { All HasMicroLimits draft.now.micros }
     requires within { vertices_fault draft.now.micros body.now ≡ None }
@@ -190,17 +172,14 @@ fn body(alloc: Global, draft: &Draft, body: &BodyDraft) -> Result<Decl, NoMemory
             let bounds = bound(alloc, draft, bounds.as_slice())?;
             Ok(Decl::Bound { bounds })
         }
-        BodyDraft::Route { roots, edges } => route(
-            alloc,
-            draft.micros.as_slice(),
-            roots.as_slice(),
-            edges.as_slice(),
-        ),
+        BodyDraft::Route { roots, edges } => {
+            route(alloc, draft, roots.as_slice(), edges.as_slice())
+        }
     }
 }
 
 #[tactic(auto, unfolding(samoa_grammar::specs::Meaning::decl_meant))]
-fn decl_def(alloc: Global, draft: &Draft, decl: &DeclDraft) -> Result<DeclDef, NoMemory>
+fn decl_def(alloc: Global, draft: &Directory, decl: &DeclDraft) -> Result<DeclDef, NoMemory>
     requires few { length draft.now.micros ≤ 24 }
     requires each { All HasMicroLimits draft.now.micros }
     requires within { vertices_fault draft.now.micros decl.now.body ≡ None }
@@ -213,62 +192,66 @@ fn decl_def(alloc: Global, draft: &Draft, decl: &DeclDraft) -> Result<DeclDef, N
     })
 }
 
-fn decl_defs(alloc: Global, draft: &Draft) -> Result<Listed<DeclDef>, NoMemory>
+fn decl_defs(alloc: Global, draft: &Directory) -> Result<Listed<DeclDef>, NoMemory>
     requires few { length draft.now.micros ≤ 24 }
     requires each { All HasMicroLimits draft.now.micros }
     requires within { All (λ (d : DeclValue). vertices_fault draft.now.micros d.body ≡ None) draft.now.decls }
     ensures { IfOk result (λ l. l ≡ map (decl_meant draft.now) draft.now.decls) }
 {
     let mut found = Vec::new(alloc);
-    for decl in draft.decls.as_slice() {
+    for decl in draft.draft().decls.as_slice() {
         found.push(decl_def(alloc, draft, decl)?)?;
     }
     Ok(Listed::from_vec(found))
 }
 
 #[tactic(auto, unfolding(samoa_grammar::specs::Meaning::event_meant))]
-fn event_def(alloc: Global, draft: &Draft, event: &EventDraft) -> Result<EventDef, NoMemory>
+fn event_def(alloc: Global, draft: &Directory, event: &EventDraft) -> Result<EventDef, NoMemory>
     requires few { length draft.now.micros ≤ 24 }
     requires each { All HasMicroLimits draft.now.micros }
     requires decls { length draft.now.decls ≤ 64 }
     ensures { IfOk result (λ e. e ≡ event_meant draft.now event.now) }
 {
-    let handlers = handlers_of(alloc, draft.micros.as_slice(), event.handlers.as_slice())?;
+    let handlers = handlers_of(alloc, draft, event.handlers.as_slice())?;
     Ok(EventDef {
         name: event.name.copied(),
-        decl: number(draft.decls.as_slice(), &event.decl),
+        decl: draft.decl(&event.decl),
         handlers,
     })
 }
 
-fn event_defs(alloc: Global, draft: &Draft) -> Result<Listed<EventDef>, NoMemory>
+fn event_defs(alloc: Global, draft: &Directory) -> Result<Listed<EventDef>, NoMemory>
     requires few { length draft.now.micros ≤ 24 }
     requires each { All HasMicroLimits draft.now.micros }
     requires decls { length draft.now.decls ≤ 64 }
     ensures { IfOk result (λ l. l ≡ map (event_meant draft.now) draft.now.events) }
 {
     let mut found = Vec::new(alloc);
-    for event in draft.events.as_slice() {
+    for event in draft.draft().events.as_slice() {
         found.push(event_def(alloc, draft, event)?)?;
     }
     Ok(Listed::from_vec(found))
 }
 
 #[tactic(auto, unfolding(samoa_grammar::specs::Meaning::table_meant))]
-fn row(alloc: Global, draft: &Draft, row: &TableDraft) -> Result<TableDef, NoMemory>
+fn row(alloc: Global, draft: &Directory, row: &TableDraft) -> Result<TableDef, NoMemory>
     requires few { length draft.now.micros ≤ 24 }
     requires each { All HasMicroLimits draft.now.micros }
     requires events { length draft.now.events ≤ 64 }
     ensures { IfOk result (λ t. t ≡ table_meant draft.now row.now) }
 {
-    let handlers = handlers_of(alloc, draft.micros.as_slice(), row.handlers.as_slice())?;
+    let handlers = handlers_of(alloc, draft, row.handlers.as_slice())?;
     Ok(TableDef {
-        event: event(draft, &row.event),
+        event: draft.event(&row.event),
         handlers,
     })
 }
 
-fn table(alloc: Global, draft: &Draft, rows: &[TableDraft]) -> Result<Listed<TableDef>, NoMemory>
+fn table(
+    alloc: Global,
+    draft: &Directory,
+    rows: &[TableDraft],
+) -> Result<Listed<TableDef>, NoMemory>
     requires few { length draft.now.micros ≤ 24 }
     requires each { All HasMicroLimits draft.now.micros }
     requires events { length draft.now.events ≤ 64 }
@@ -282,7 +265,7 @@ fn table(alloc: Global, draft: &Draft, rows: &[TableDraft]) -> Result<Listed<Tab
 }
 
 #[tactic(auto, unfolding(samoa_grammar::specs::Meaning::change_meant))]
-fn change_def(alloc: Global, draft: &Draft, change: &ChangeDraft) -> Result<ChangeDef, NoMemory>
+fn change_def(alloc: Global, draft: &Directory, change: &ChangeDraft) -> Result<ChangeDef, NoMemory>
     requires few { length draft.now.micros ≤ 24 }
     requires each { All HasMicroLimits draft.now.micros }
     requires events { length draft.now.events ≤ 64 }
@@ -291,19 +274,19 @@ fn change_def(alloc: Global, draft: &Draft, change: &ChangeDraft) -> Result<Chan
     let table = table(alloc, draft, change.table.as_slice())?;
     Ok(ChangeDef {
         name: change.name.copied(),
-        event: event(draft, &change.event),
+        event: draft.event(&change.event),
         table,
     })
 }
 
-fn change_defs(alloc: Global, draft: &Draft) -> Result<Listed<ChangeDef>, NoMemory>
+fn change_defs(alloc: Global, draft: &Directory) -> Result<Listed<ChangeDef>, NoMemory>
     requires few { length draft.now.micros ≤ 24 }
     requires each { All HasMicroLimits draft.now.micros }
     requires events { length draft.now.events ≤ 64 }
     ensures { IfOk result (λ l. l ≡ map (change_meant draft.now) draft.now.changes) }
 {
     let mut found = Vec::new(alloc);
-    for change in draft.changes.as_slice() {
+    for change in draft.draft().changes.as_slice() {
         found.push(change_def(alloc, draft, change)?)?;
     }
     Ok(Listed::from_vec(found))
@@ -394,22 +377,22 @@ fn crash_defs(alloc: Global, crashes: &[CrashDraft]) -> Result<Listed<CrashDef>,
 
 /// The script that a draft means whose totals are within their limits, in memory of its own.
 #[tactic(auto, unfolding(samoa_grammar::specs::Meaning::script_of))]
-pub fn resolve(alloc: Global, draft: &Draft) -> Result<Script, NoMemory>
+pub fn resolve(alloc: Global, draft: &Directory) -> Result<Script, NoMemory>
     requires limits { HasLimits draft.now }
     requires totals { totals_fault draft.now ≡ None }
     ensures { IfOk result (λ s. s ≡ script_of draft.now) }
 {
+    let whole = draft.draft();
     let micros = micro_defs(alloc, draft)?;
     let decls = decl_defs(alloc, draft)?;
     let events = event_defs(alloc, draft)?;
     let changes = change_defs(alloc, draft)?;
-    let directory = Directory::new(alloc, draft)?;
-    let does = do_defs(alloc, &directory)?;
-    let losses = loss_defs(alloc, draft.losses.as_slice())?;
-    let crashes = crash_defs(alloc, draft.crashes.as_slice())?;
+    let does = do_defs(alloc, draft)?;
+    let losses = loss_defs(alloc, whole.losses.as_slice())?;
+    let crashes = crash_defs(alloc, whole.crashes.as_slice())?;
     Ok(Script {
-        nodes: draft.nodes,
-        ticks: draft.ticks,
+        nodes: whole.nodes,
+        ticks: whole.ticks,
         micros,
         decls,
         events,

@@ -7,8 +7,9 @@ ghost use Rattle.samoa_grammar.specs.Meaning.{handler_of, vertices_of, vertex_of
 ghost use Rattle.samoa_form.specs.Limits.{HasMicroLimits};
 ghost use Rattle.samoa_naming.specs.Routes.{with_handler, with_edge};
 
+use crate::directory::Directory;
 use crate::handlers::handler;
-use samoa_grammar::{EdgeDraft, MicroDraft};
+use samoa_grammar::EdgeDraft;
 use samoa_model::{HandlerId, Name, NoMemory};
 use std::alloc::Global;
 
@@ -37,48 +38,44 @@ fn add_handler(found: &mut Vec<HandlerId>, handler: HandlerId) -> Result<(), NoM
 /// The handlers that roots name, each once.
 pub fn roots_once(
     alloc: Global,
-    micros: &[MicroDraft],
+    draft: &Directory,
     roots: &[Name],
 ) -> Result<Vec<HandlerId>, NoMemory>
-    requires few { length micros.now ≤ 24 }
-    requires each { All HasMicroLimits micros.now }
-    ensures { IfOk result (λ v. v.items ≡ once (map (handler_of micros.now) roots.now)) }
+    requires few { length draft.now.micros ≤ 24 }
+    requires each { All HasMicroLimits draft.now.micros }
+    ensures { IfOk result (λ v. v.items ≡ once (map (handler_of draft.now.micros) roots.now)) }
 {
     let mut found = Vec::new(alloc);
     for root in roots {
-        add_handler(&mut found, handler(micros, root))?;
+        add_handler(&mut found, handler(draft, root))?;
     }
     Ok(found)
 }
 
-fn add_ends(
-    found: &mut Vec<HandlerId>,
-    micros: &[MicroDraft],
-    edge: &EdgeDraft,
-) -> Result<(), NoMemory>
-    requires few { length micros.now ≤ 24 }
-    requires each { All HasMicroLimits micros.now }
-    ensures { OnOk result (found.new.items ≡ with_handler (with_handler found.old.items (handler_of micros.now edge.now.from)) (handler_of micros.now edge.now.to)) }
+fn add_ends(found: &mut Vec<HandlerId>, draft: &Directory, edge: &EdgeDraft) -> Result<(), NoMemory>
+    requires few { length draft.now.micros ≤ 24 }
+    requires each { All HasMicroLimits draft.now.micros }
+    ensures { OnOk result (found.new.items ≡ with_handler (with_handler found.old.items (handler_of draft.now.micros edge.now.from)) (handler_of draft.now.micros edge.now.to)) }
 {
-    add_handler(found, handler(micros, &edge.from))?;
-    add_handler(found, handler(micros, &edge.to))
+    add_handler(found, handler(draft, &edge.from))?;
+    add_handler(found, handler(draft, &edge.to))
 }
 
 /// The handlers of a route, each once.
 #[tactic(auto, using(crate::proofs::Once::ends_more))]
 pub fn vertices(
     alloc: Global,
-    micros: &[MicroDraft],
+    draft: &Directory,
     roots: &[Name],
     edges: &[EdgeDraft],
 ) -> Result<Vec<HandlerId>, NoMemory>
-    requires few { length micros.now ≤ 24 }
-    requires each { All HasMicroLimits micros.now }
-    ensures { IfOk result (λ v. v.items ≡ vertices_of micros.now roots.now edges.now) }
+    requires few { length draft.now.micros ≤ 24 }
+    requires each { All HasMicroLimits draft.now.micros }
+    ensures { IfOk result (λ v. v.items ≡ vertices_of draft.now.micros roots.now edges.now) }
 {
-    let mut found = roots_once(alloc, micros, roots)?;
+    let mut found = roots_once(alloc, draft, roots)?;
     for edge in edges {
-        add_ends(&mut found, micros, edge)?;
+        add_ends(&mut found, draft, edge)?;
     }
     Ok(found)
 }
@@ -125,32 +122,32 @@ fn add_edge(found: &mut Vec<(u32, u32)>, edge: (u32, u32)) -> Result<(), NoMemor
     Ok(())
 }
 
-fn numbers_of(micros: &[MicroDraft], vertices: &[HandlerId], edge: &EdgeDraft) -> (u32, u32)
-    requires few { length micros.now ≤ 24 }
-    requires each { All HasMicroLimits micros.now }
+fn numbers_of(draft: &Directory, vertices: &[HandlerId], edge: &EdgeDraft) -> (u32, u32)
+    requires few { length draft.now.micros ≤ 24 }
+    requires each { All HasMicroLimits draft.now.micros }
     requires vertices { length vertices.now ≤ 32 }
-    ensures { result ≡ edge_numbers micros.now vertices.now edge.now }
+    ensures { result ≡ edge_numbers draft.now.micros vertices.now edge.now }
 {
-    let from = vertex(vertices, &handler(micros, &edge.from));
-    let to = vertex(vertices, &handler(micros, &edge.to));
+    let from = vertex(vertices, &handler(draft, &edge.from));
+    let to = vertex(vertices, &handler(draft, &edge.to));
     (from, to)
 }
 
 /// The edges of a route by the numbers of their ends, each once.
 pub fn edges_once(
     alloc: Global,
-    micros: &[MicroDraft],
+    draft: &Directory,
     vertices: &[HandlerId],
     edges: &[EdgeDraft],
 ) -> Result<Vec<(u32, u32)>, NoMemory>
-    requires few { length micros.now ≤ 24 }
-    requires each { All HasMicroLimits micros.now }
+    requires few { length draft.now.micros ≤ 24 }
+    requires each { All HasMicroLimits draft.now.micros }
     requires vertices { length vertices.now ≤ 32 }
-    ensures { IfOk result (λ v. v.items ≡ edges_after [] (map (edge_numbers micros.now vertices.now) edges.now)) }
+    ensures { IfOk result (λ v. v.items ≡ edges_after [] (map (edge_numbers draft.now.micros vertices.now) edges.now)) }
 {
     let mut found = Vec::new(alloc);
     for edge in edges {
-        add_edge(&mut found, numbers_of(micros, vertices, edge))?;
+        add_edge(&mut found, numbers_of(draft, vertices, edge))?;
     }
     Ok(found)
 }

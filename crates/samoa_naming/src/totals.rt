@@ -10,6 +10,7 @@ ghost use Rattle.samoa_form.specs.Limits.{HasMicroLimits, HasLimits};
 ghost use Rattle.samoa_naming.specs.Finds.{Finds};
 ghost use Rattle.samoa_naming.specs.Groups.{handler_outside, micro_outside, ports_missing, codes_outside, vertices_over, does_outside, losses_outside, crashes_outside, ticks_over, kinds_over, kind_over};
 
+use crate::directory::Directory;
 use crate::faults::{over, wrong_form};
 use crate::routes::vertices;
 use samoa_form::Stop;
@@ -106,13 +107,13 @@ fn codes_within(draft: &Draft) -> Result<(), Stop>
     Ok(())
 }
 
-fn body_within(alloc: Global, micros: &[MicroDraft], body: &BodyDraft) -> Result<(), Stop>
-    requires few { length micros.now ≤ 24 }
-    requires each { All HasMicroLimits micros.now }
-    ensures { Finds result (vertices_fault micros.now body.now) }
+fn body_within(alloc: Global, draft: &Directory, body: &BodyDraft) -> Result<(), Stop>
+    requires few { length draft.now.micros ≤ 24 }
+    requires each { All HasMicroLimits draft.now.micros }
+    ensures { Finds result (vertices_fault draft.now.micros body.now) }
 {
     if let BodyDraft::Route { roots, edges } = body {
-        let found = vertices(alloc, micros, roots.as_slice(), edges.as_slice())?;
+        let found = vertices(alloc, draft, roots.as_slice(), edges.as_slice())?;
         if found.len() > MOST_VERTICES {
             return Err(over("edges", 32));
         }
@@ -121,13 +122,13 @@ fn body_within(alloc: Global, micros: &[MicroDraft], body: &BodyDraft) -> Result
 }
 
 #[tactic(auto, using(crate::proofs::Along::along_items), unfolding(crate::specs::Groups::vertices_over))]
-fn bodies_within(alloc: Global, draft: &Draft) -> Result<(), Stop>
+fn bodies_within(alloc: Global, draft: &Directory) -> Result<(), Stop>
     requires few { length draft.now.micros ≤ 24 }
     requires each { All HasMicroLimits draft.now.micros }
     ensures { Finds result (vertices_over draft.now) }
 {
-    for decl in draft.decls.as_slice() {
-        body_within(alloc, draft.micros.as_slice(), &decl.body)?;
+    for decl in draft.draft().decls.as_slice() {
+        body_within(alloc, draft, &decl.body)?;
     }
     Ok(())
 }
@@ -251,16 +252,17 @@ fn kinds_within(draft: &Draft) -> Result<(), Stop>
 
 /// That each position is there, and each total within its limit.
 #[tactic(auto, using(crate::proofs::Groups::totals_by_groups))]
-pub fn totals_within(alloc: Global, draft: &Draft) -> Result<(), Stop>
+pub fn totals_within(alloc: Global, draft: &Directory) -> Result<(), Stop>
     requires { HasLimits draft.now }
     ensures { Finds result (totals_fault draft.now) }
 {
-    all_have_ports(draft)?;
-    codes_within(draft)?;
+    let whole = draft.draft();
+    all_have_ports(whole)?;
+    codes_within(whole)?;
     bodies_within(alloc, draft)?;
-    does_within(draft)?;
-    losses_within(draft)?;
-    crashes_within(draft)?;
-    ticks_within(draft)?;
-    kinds_within(draft)
+    does_within(whole)?;
+    losses_within(whole)?;
+    crashes_within(whole)?;
+    ticks_within(whole)?;
+    kinds_within(whole)
 }

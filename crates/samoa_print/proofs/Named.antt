@@ -35,6 +35,7 @@ use Rattle.samoa_grammar.specs.Names.{is_dot, has_dot, micro_part, handler_part}
 use Rattle.samoa_grammar.specs.Meaning.{number_in_names, handler_names, no_micro_draft, handler_in, handler_of}
 use Rattle.samoa_grammar.specs.Passes.{twice, among, micro_names, decl_names, event_names, change_names, handler_unknown}
 use Rattle.samoa_grammar.proofs.Dedup.{same_bytes}
+use Rattle.samoa_grammar.proofs.Lists.{name_at}
 use Rattle.samoa_grammar.proofs.Apart.{stands_at, place_at, twice_apart}
 use Rattle.samoa_print.specs.Texts.{micro_text, decl_text, event_text, change_text}
 use Rattle.samoa_print.proofs.Back.{handlers_back, micro_back, decl_back, event_back, change_back, draft_back}
@@ -56,12 +57,6 @@ text_kept names n valid below =
       formed = All-get_or IsScriptName names n [] below valid.each;
       number = ap (λ o. unwrap_or o 0) (place_at bytes_eq same_bytes names n [] valid.apart below);
     }
-
--- the name at a number
-name_at : {Y : Type 0} (g : Y → List ℕ) (d : Y) → g d ≡ [] → (ys : List Y) (i : ℕ) → g (get_or ys i d) ≡ get_or (map g ys) i []
-name_at g d none [] i = none
-name_at g d none (y ∷ ys) zero = refl
-name_at g d none (y ∷ ys) (suc i) = name_at g d none ys i
 
 kept : {Y : Type 0} (g : Y → List ℕ) (d : Y) → g d ≡ [] → (ys : List Y) (names : List (List ℕ)) → names ≡ map g ys → AreNames (map g ys) → (i : ℕ) → i < length ys → IsText names (g (get_or ys i d)) i
 kept g d none ys names is valid i below =

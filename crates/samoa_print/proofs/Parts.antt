@@ -13,6 +13,7 @@ use Rattle.samoa_grammar.specs.Tree.{list_of, is_list, items_list, has_only}
 use Rattle.samoa_grammar.specs.Names.{is_handler_text}
 use Rattle.samoa_grammar.specs.Walks.{◌then◌, first_along}
 use Rattle.samoa_grammar.specs.Tests.{object_fault, name_fault, within_fault, number_fault, number_from_fault, items_fault, list_fault}
+use Rattle.samoa_grammar.proofs.Lists.{map_map}
 use Rattle.samoa_print.specs.Canonical.{list_tree, number_tree}
 
 -- ---- one test after another
@@ -51,10 +52,6 @@ map_same f g (x ∷ xs) h = ap₂ (λ y ys. y ∷ ys) h.0 (map_same f g xs h.1)
 pub map_itself : {X : Type 0} (f : X → X) (xs : List X) → Each (λ x. f x ≡ x) xs → map f xs ≡ xs
 map_itself f [] h = refl
 map_itself f (x ∷ xs) h = ap₂ (λ y ys. y ∷ ys) h.0 (map_itself f xs h.1)
-
-pub map_map : {X Y Z : Type 0} (f : Y → Z) (g : X → Y) (xs : List X) → map f (map g xs) ≡ map (λ x. f (g x)) xs
-map_map f g [] = refl
-map_map f g (x ∷ xs) = ap (λ ys. f (g x) ∷ ys) (map_map f g xs)
 
 -- ---- tests of a part that passes
 

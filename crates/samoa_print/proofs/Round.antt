@@ -58,7 +58,8 @@ use Rattle.samoa_grammar.proofs.Apart.{place_at, apart_map, twice_none, dedup_it
 use Rattle.samoa_print.specs.Texts.{micro_text, decl_text, event_text, change_text}
 use Rattle.samoa_print.specs.Canonical.{tree_of}
 use Rattle.samoa_print.proofs.Back.{micro_back, bound_back, vertex_text, edge_back, body_back, decl_back, event_back, table_back, change_back, cause_back, do_back, loss_back, crash_back, draft_back}
-use Rattle.samoa_print.proofs.Parts.{none_then, map_map, map_itself}
+use Rattle.samoa_grammar.proofs.Lists.{map_map}
+use Rattle.samoa_print.proofs.Parts.{none_then, map_itself}
 use Rattle.samoa_print.proofs.Again.{tree_passes, tree_means}
 use Rattle.samoa_print.proofs.Named.{known, again, handlers_kept, micros_back, decls_back, events_back, changes_back, micro_kept, decl_kept, event_kept, change_kept}
 use Rattle.samoa_print.proofs.Formed.{each_from, unmapped, vertex_kept, handlers_known, draft_form}

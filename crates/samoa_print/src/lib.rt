@@ -18,8 +18,6 @@ mod listing;
 mod micros;
 mod names;
 mod object;
-#[cfg(test)]
-mod tests;
 mod whole;
 
 pub use cells::need;

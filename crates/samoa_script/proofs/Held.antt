@@ -12,7 +12,7 @@ use Rattle.samoa_grammar.specs.Held.{walk_fault, script_meant, Holds}
 use Rattle.samoa_form.specs.Limits.{HasLimits}
 use Rattle.samoa_form.proofs.Limits.{draft_limits}
 use Rattle.samoa_model.specs.Valid.{IsValid}
-use Rattle.samoa_naming.proofs.Along.{then_none}
+use Rattle.samoa_grammar.proofs.Chains.{then_four}
 use Rattle.samoa_naming.proofs.Valid.{script_valid}
 use Rattle.samoa_print.specs.Canonical.{tree_of}
 use Rattle.samoa_print.proofs.Round.{valid_passes, valid_means}
@@ -29,10 +29,8 @@ pub record Passes (d : Data) : Type 0 where
 pub passes_of : (d : Data) → walk_fault d ≡ None → Passes d
 unfolding walk_fault
 passes_of d h =
-    let a = then_none (form_of_all d) (twice_fault (draft_of d) then unknown_fault (draft_of d) then totals_fault (draft_of d)) h in
-    let b = then_none (twice_fault (draft_of d)) (unknown_fault (draft_of d) then totals_fault (draft_of d)) a.1 in
-    let c = then_none (unknown_fault (draft_of d)) (totals_fault (draft_of d)) b.1 in
-    record { form = a.0; once = b.0; known = c.0; totals = c.1 }
+    let parts = then_four (form_of_all d) (twice_fault (draft_of d)) (unknown_fault (draft_of d)) (totals_fault (draft_of d)) h in
+    record { form = parts.0; once = parts.1; known = parts.2; totals = parts.3 }
 
 -- what holds of the script of each draft that passes holds of a script that bytes hold
 by_tree : (P : Script → Type 0) → ((d : Data) → Passes d → P (script_of (draft_of d))) → (d : Data) (script : Script) → walk_fault d ≡ None → script ≡ script_meant d → P script

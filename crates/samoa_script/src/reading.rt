@@ -3,7 +3,11 @@ ghost use Rattle.std.specs.Prelude.{◌≡◌, ◌⊎◌, ◌↔◌, ℕ, List, 
 ghost use Rattle.serde_json.specs.View.{view};
 ghost use Rattle.samoa_model.specs.declared.script.Script.{Script as ScriptValue};
 ghost use Rattle.samoa_model.specs.Range.{IsInRange};
+ghost use Rattle.samoa_grammar.specs.Walks.{◌then◌};
+ghost use Rattle.samoa_grammar.specs.Passes.{twice_fault, unknown_fault, totals_fault};
+ghost use Rattle.samoa_grammar.specs.Meaning.{script_of};
 ghost use Rattle.samoa_grammar.specs.Held.{walk_fault, script_meant, Holds};
+ghost use Rattle.samoa_form.specs.Limits.{HasLimits};
 ghost use Rattle.samoa_form.specs.Reads.{Reads};
 ghost use Rattle.samoa_model.specs.Valid.{IsValid};
 ghost use Rattle.samoa_script.specs.declared.fault.ScriptFault.{ScriptFault as FaultValue};
@@ -12,20 +16,38 @@ ghost use Rattle.samoa_script.specs.Fails.{Fails, HasScript, HasFault};
 
 use crate::fault::{ScriptFault, fault_of};
 use samoa_form::{Stop, read_form};
+use samoa_grammar::Draft;
 use samoa_model::Script;
-use samoa_naming::{check_names, resolve};
+use samoa_naming::{Directory, check_names, resolve};
 use serde_json::{Category, Value};
 use std::alloc::Global;
 
 const MOST_BYTES: usize = 1_048_576;
+
+/// The script that a draft means, whose names have numbers.
+fn resolved(alloc: Global, draft: &Directory) -> Result<Script, Stop>
+    requires { HasLimits draft.now }
+    ensures { Reads result (twice_fault draft.now then unknown_fault draft.now then totals_fault draft.now) (script_of draft.now) }
+{
+    check_names(alloc, draft)?;
+    Ok(resolve(alloc, draft)?)
+}
+
+/// The script that a draft means.
+fn named(alloc: Global, draft: &Draft) -> Result<Script, Stop>
+    requires { HasLimits draft.now }
+    ensures { Reads result (twice_fault draft.now then unknown_fault draft.now then totals_fault draft.now) (script_of draft.now) }
+{
+    let directory = Directory::new(alloc, draft)?;
+    resolved(alloc, &directory)
+}
 
 #[tactic(auto, unfolding(samoa_grammar::specs::Held::walk_fault, samoa_grammar::specs::Held::script_meant))]
 fn script(alloc: Global, value: &Value) -> Result<Script, Stop>
     ensures { Reads result (walk_fault (view value.now)) (script_meant (view value.now)) }
 {
     let draft = read_form(alloc, value)?;
-    check_names(alloc, &draft)?;
-    Ok(resolve(alloc, &draft)?)
+    named(alloc, &draft)
 }
 
 /// The script that the bytes hold. A text with a key twice in one object is read by its last.

@@ -8,14 +8,14 @@ use Rattle.samoa_naming.specs.Groups.{handler_place}
 use Rattle.samoa_names.proofs.Positions.{position_right}
 use Rattle.samoa_naming.proofs.handlers.index.Goals as goal
 
-pub returns-in_ok-own-in-None-clause-value : goal.returns-in_ok-own-in-None-clause-value
+pub returns-in_ok-place-in-None-clause-value : goal.returns-in_ok-place-in-None-clause-value
 unfolding handler_place
-returns-in_ok-own-in-None-clause-value c =
+returns-in_ok-place-in-None-clause-value c =
     let name = c.args.name.now in
     let handlers = c.args.micro.now.handlers in
-    let own = c.in_ok-own-in-None.own in
+    let own = c.in_ok-place-in-None.place in
     let none : position (bytes_eq name) (map (λ (h : CodeDef). h.name) handlers) ≡ None = cc in
-    let there : position (bytes_eq name) (handlers_of_kind c.args.micro.now.kind) ≡ Some own = sym c.in_ok-own-in-None.ensures.value in
+    let there : position (bytes_eq name) (handlers_of_kind c.args.micro.now.kind) ≡ Some own = sym c.in_ok-place-in-None.ensures.value in
     let joined = position_right (bytes_eq name) (map (λ (h : CodeDef). h.name) handlers) (handlers_of_kind c.args.micro.now.kind) none in
-    ap (λ l. Some (length l + own)) c.as_slice-handlers.ensures
+    ap (λ n. Some (n + own)) c.len.ensures
     ∙ sym (joined ∙ ap (option_map (λ i. length (map (λ (h : CodeDef). h.name) handlers) + i)) there ∙ ap (λ n. Some (n + own)) (length-map handlers (λ (h : CodeDef). h.name)))

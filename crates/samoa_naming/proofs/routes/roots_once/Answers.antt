@@ -8,4 +8,4 @@ pub loop-root-preserved : goal.loop-root-preserved
 loop-root-preserved c =
     c.in_ok-add_handler.ensures
     ∙ ap₂ (λ hs h. with_handler hs h) c.loop-root.invariant c.handler.ensures
-    ∙ sym (once_more (handler_of c.args.micros.now) c.args.roots.now c.loop-root.root-index c.root-item.result (omega arith) c.root-item.is)
+    ∙ sym (once_more (handler_of c.args.draft.now.micros) c.args.roots.now c.loop-root.root-index c.root-item.result (omega arith) c.root-item.is)

@@ -6,4 +6,4 @@ use Rattle.samoa_naming.specs.Routes.{ends_of}
 use Rattle.samoa_naming.proofs.routes.vertices.Given as goal
 
 abbrev pub invariant-loop-edge : goal.invariant-loop-edge
-invariant-loop-edge l = l.found.items ≡ once (map (handler_of l.micros) l.roots ++ flat_map (ends_of l.micros) (take l.edge-index l.edges))
+invariant-loop-edge l = l.found.items ≡ once (map (handler_of l.draft.micros) l.roots ++ flat_map (ends_of l.draft.micros) (take l.edge-index l.edges))
