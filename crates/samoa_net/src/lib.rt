@@ -7,5 +7,7 @@ mod net;
 mod plan;
 mod sent;
 mod status;
+#[cfg(test)]
+mod tests;
 
 pub use net::Net;

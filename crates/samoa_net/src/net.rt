@@ -74,6 +74,7 @@ impl Net {
         ensures tick { OnOk result (self.new.tick ≡ self.old.tick) }
         ensures own { OnOk result (self.new.own ≡ self.old.own) }
         ensures comp { OnOk result (self.new.comp ≡ comp) }
+        ensures plan { IsPlanFor script.now self.old → IsPlanFor script.now self.new }
         ensures err { OnErr result (self.new ≡ self.old) }
     {
         match entry {
