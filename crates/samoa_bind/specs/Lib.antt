@@ -1,1 +1,3 @@
 pub mod Bound
+pub mod Histories
+pub mod Kept

@@ -2,7 +2,9 @@
 #![tactic(auto)]
 
 mod epochs;
+mod history;
 mod lists;
+mod rows;
 mod tables;
 
 pub use tables::Tables;

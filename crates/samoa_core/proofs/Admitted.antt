@@ -13,7 +13,7 @@ use Rattle.samoa_model.specs.declared.record.Step.{Step}
 use Rattle.samoa_model.specs.declared.script.Decl.{Decl}
 use Rattle.samoa_model.specs.declared.script.DeclDef.{DeclDef}
 use Rattle.samoa_model.specs.declared.script.Script.{Script}
-use Rattle.samoa_bind.specs.Bound.{epochs_of, table_at}
+use Rattle.samoa_bind.specs.Bound.{Bindings, epochs_of, last_table, table_at}
 use Rattle.samoa_calls.specs.Held.{Held, handlers_of}
 use Rattle.samoa_serial.specs.declared.call.Call.{Call}
 use Rattle.samoa_serial.specs.declared.call.Waiting.{Waiting}
@@ -32,7 +32,7 @@ use Rattle.samoa_invariant.proofs.preservation.Slots.{put-else, put-here}
 use Rattle.samoa_invariant.proofs.representation.Traces.{count-few, invariant, is_run-with_ext, is_run-with_step, state-ext, state-step}
 use Rattle.std.proofs.lemmas.Bool.{cases_eq}
 use Rattle.samoa_invariant.proofs.preservation.Versions.{version-most, weight_at-else, weight_at-is}
-use Rattle.samoa_core.specs.Admission.{admitted, last_table, raised, started, steps_of, turns_taken}
+use Rattle.samoa_core.specs.Admission.{admitted, raised, started, steps_of, turns_taken}
 use Rattle.samoa_core.specs.Known.{decl_number}
 use Rattle.samoa_core.specs.Later.{IsStill}
 use Rattle.samoa_core.specs.Room.{spare_of, spare_when, to_come}
@@ -45,7 +45,8 @@ use Rattle.samoa_core.proofs.Counts.{unended-admit, unended-most}
 use Rattle.samoa_core.proofs.Declares.{weight-most}
 use Rattle.samoa_core.proofs.Grids.{each-push}
 use Rattle.samoa_core.proofs.Keeps.{runs-on}
-use Rattle.samoa_core.proofs.Rules.{caused-same, decl-of}
+use Rattle.samoa_core.proofs.Rules.{decl-of}
+use Rattle.samoa_core.proofs.Tabled.{ChangesTables}
 use Rattle.samoa_core.proofs.Since.{cleared-ext, cleared-step}
 use Rattle.samoa_core.proofs.Taken.{grid-raised, length-taken, taken-at}
 use Rattle.samoa_core.proofs.Toll.{spare-most, sum-le}
@@ -116,8 +117,9 @@ come-admit P core =
         ∙ ap (λ (h : ℕ). spare_when core.stopped h) (admit_home P core j (next_step (core.comp j)))
 
 -- the fields after an admission
-abbrev pub after_admission : Fields → Ext → ℕ → ℕ → ℕ → ℕ → List ℕ → Running → Fields
-after_admission fs ext number held promised clears_room global r = record fs {
+abbrev pub after_admission : Fields → Ext → ℕ → ℕ → ℕ → ℕ → List ℕ → Bindings → Running → Fields
+after_admission fs ext number held promised clears_room global tables r = record fs {
+  tables = tables;
   held = held;
   global = global;
   exts = fs.exts ++ ext ∷ [];
@@ -169,24 +171,39 @@ pub record Admits (t : Trace) (ext : Ext) : Type 0 where
   pub fits : (state t).cells + cells_of t.script ext ≤ t.cells
 
 -- the record of the computation that is admitted
-pub record IsFresh (fs : Fields) (ext : Ext) (r : Running) : Type 0 where
+pub record IsFresh (fs : Fields) (ext : Ext) (tables : Bindings) (r : Running) : Type 0 where
+  pub changes : ChangesTables fs.script fs.tables tables ext.node ext.cause
   pub node : r.node ≡ ext.node
-  pub epoch : r.epoch + 1 ≡ length (epochs_of fs.tables ext.node)
+  pub epoch : r.epoch + 1 ≡ length (epochs_of tables ext.node)
   pub turns : r.turns.items ≡ turns_taken (decl_of fs.script ext).decl (length fs.script.micros) ext.node.0 fs.global (length fs.script.micros)
-  pub calls : r.calls ≡ started fs.script fs.tables ext
+  pub calls : r.calls ≡ started fs.script tables ext
   pub none_waits : r.calls.comp.waiting ≡ []
   pub unended : r.ended ≡ false
 
--- the present table is that of the last epoch, and an admission by which no binding changes keeps it
-same-table : (fs : Fields) (ext : Ext) (node : NodeId) (epoch : ℕ) → Kept fs → node.0 < fs.script.nodes → epoch + 1 ≡ length (epochs_of fs.tables node)
-    → table_at fs.tables node epoch ≡ caused fs.script ext.cause ((state (trace_of fs)).present node.0)
-same-table fs ext node epoch kept lt last =
-    kept.holds.present node epoch lt last ∙ sym (caused-same fs.script kept.built.unchanging ext.cause ((state (trace_of fs)).present node.0))
+-- the present table is that of the last epoch, after what the admission causes
+new-table : (fs : Fields) (ext : Ext) (tables : Bindings) (epoch : ℕ) → Kept fs → ChangesTables fs.script fs.tables tables ext.node ext.cause → ext.node.0 < fs.script.nodes
+    → epoch + 1 ≡ length (epochs_of tables ext.node) → table_at tables ext.node epoch ≡ caused fs.script ext.cause ((state (trace_of fs)).present ext.node.0)
+new-table fs ext tables epoch kept changes lt last =
+    let some : 0 < length (epochs_of fs.tables ext.node) = kept.tables.some ext.node lt in
+    let is : length (epochs_of fs.tables ext.node) - 1 + 1 ≡ length (epochs_of fs.tables ext.node) = omega (arith, some) in
+    changes.last epoch last ∙ ap (λ (table : Table). caused fs.script ext.cause table) (kept.holds.present ext.node (length (epochs_of fs.tables ext.node) - 1) lt is)
+
+-- a computation uses the table of its epoch, which an admission keeps
+runs-in : (script : Script) (before after : Bindings) (exts : List Ext) (core : model.Core) (k : ℕ) (ext : Ext) (r : Running) → ChangesTables script before after ext.node ext.cause
+    → Runs script before exts core k r → Runs script after exts core k r
+runs-in script before after exts core k ext r changes runs = record {
+  is = runs.is;
+  table = record {
+    epoch = changes.kept r.node r.epoch runs.table.epoch;
+    table = changes.older r.node r.epoch runs.table.epoch ∙ runs.table.table;
+    named = runs.table.named;
+  };
+}
 
 -- the computation that is admitted, in the state after that
-runs-new : (fs : Fields) (ext : Ext) (r : Running) → Kept fs → IsExtOf fs.script ext → IsFresh fs ext r
-    → Runs fs.script fs.tables (fs.exts ++ ext ∷ []) (model.admit (play (with_ext (trace_of fs) ext)) (state (trace_of fs))) (length fs.exts) r
-runs-new fs ext r kept known is =
+runs-new : (fs : Fields) (ext : Ext) (tables : Bindings) (r : Running) → Kept fs → IsExtOf fs.script ext → IsFresh fs ext tables r
+    → Runs fs.script tables (fs.exts ++ ext ∷ []) (model.admit (play (with_ext (trace_of fs) ext)) (state (trace_of fs))) (length fs.exts) r
+runs-new fs ext tables r kept known is =
     let P : Play = play (with_ext (trace_of fs) ext) in
     let core : model.Core = state (trace_of fs) in
     let n : ℕ = length fs.exts in
@@ -194,18 +211,18 @@ runs-new fs ext r kept known is =
     let all : core.count ≡ n = kept.holds.admitted in
     let mine : ext_at (fs.exts ++ ext ∷ []) n ≡ ext = new_ext fs.exts ext in
     let mine_at : ext_at (fs.exts ++ ext ∷ []) core.count ≡ ext = ap (λ (m : ℕ). ext_at (fs.exts ++ ext ∷ []) m) all ∙ mine in
-    let epoch : r.epoch < length (epochs_of fs.tables r.node) = (let e = is.epoch in rw is.node (omega (arith, e))) in
-    let last : length (epochs_of fs.tables ext.node) - 1 ≡ r.epoch = (let e = is.epoch in omega (arith, e)) in
-    let present : last_table fs.tables ext.node ≡ P.change core.count (core.present (P.node core.count)) =
-    same-table fs ext ext.node (length (epochs_of fs.tables ext.node) - 1) kept known.node (let e = is.epoch in omega (arith, e))
+    let epoch : r.epoch < length (epochs_of tables r.node) = (let e = is.epoch in rw is.node (omega (arith, e))) in
+    let last : length (epochs_of tables ext.node) - 1 ≡ r.epoch = (let e = is.epoch in omega (arith, e)) in
+    let present : last_table tables ext.node ≡ P.change core.count (core.present (P.node core.count)) =
+    new-table fs ext tables (length (epochs_of tables ext.node) - 1) kept is.changes known.node (let e = is.epoch in omega (arith, e))
     ∙ ap (λ (x : Ext). caused fs.script x.cause (core.present x.node.0)) (sym mine_at) in
-    let table : table_at fs.tables r.node r.epoch ≡ after.table n =
-    ap (λ (v : NodeId). table_at fs.tables v r.epoch) is.node
-    ∙ (ap (λ (e : ℕ). table_at fs.tables ext.node e) (sym last)
+    let table : table_at tables r.node r.epoch ≡ after.table n =
+    ap (λ (v : NodeId). table_at tables v r.epoch) is.node
+    ∙ (ap (λ (e : ℕ). table_at tables ext.node e) (sym last)
     ∙ (present ∙ sym (put-here {A = Table} core.table core.count n (P.change core.count (core.present (P.node core.count))) (sym all)))) in
     let comp : r.calls.comp ≡ after.comp n =
     ap (λ (h : Held). h.comp) is.calls
-    ∙ (ap (λ (x : Ext). start (attempts_of (decl_of fs.script x).decl (last_table fs.tables ext.node)) (decl_of fs.script x).budget (root_of fs.script x.cause) x.args) (sym mine_at)
+    ∙ (ap (λ (x : Ext). start (attempts_of (decl_of fs.script x).decl (last_table tables ext.node)) (decl_of fs.script x).budget (root_of fs.script x.cause) x.args) (sym mine_at)
     ∙ (ap (λ (x : Table). start (attempts_of (P.decl core.count) x) (P.budget core.count) (P.root core.count) (P.args core.count)) present
     ∙ sym (put-here {A = Computation} core.comp core.count n _ (sym all)))) in
     let waits : (after.comp n).waiting ≡ [] = ap (λ (d : Computation). d.waiting) (sym comp) ∙ is.none_waits in
@@ -235,13 +252,13 @@ runs-new fs ext r kept known is =
       };
     }
 
-pub kept-admission : (fs : Fields) (ext : Ext) (number held promised clears_room : ℕ) (global : List ℕ) (r : Running)
-    → Kept fs → Admits (trace_of fs) ext → IsFresh fs ext r
+pub kept-admission : (fs : Fields) (ext : Ext) (number held promised clears_room : ℕ) (global : List ℕ) (tables : Bindings) (r : Running)
+    → Kept fs → Admits (trace_of fs) ext → IsFresh fs ext tables r
     → number ≡ length fs.exts + 1 → held ≡ fs.held + cells_of fs.script ext
     → promised ≡ fs.promised + steps_of (decl_of fs.script ext) → length fs.clears < clears_room
     → global ≡ raised (decl_of fs.script ext).decl (length fs.script.micros) ext.node.0 fs.global (length fs.script.micros)
-    → Kept (after_admission fs ext number held promised clears_room global r)
-kept-admission fs ext number held promised clears_room global r kept admits is is_number is_held is_promised clears is_global =
+    → Kept (after_admission fs ext number held promised clears_room global tables r)
+kept-admission fs ext number held promised clears_room global tables r kept admits is is_number is_held is_promised clears is_global =
     let t : Trace = trace_of fs in
     let t1 : Trace = with_ext t ext in
     let P : Play = play t1 in
@@ -261,7 +278,7 @@ kept-admission fs ext number held promised clears_room global r kept admits is i
     let new_at : ext_at (fs.exts ++ ext ∷ []) k ≡ ext = ap (λ (m : ℕ). ext_at (fs.exts ++ ext ∷ []) m) all ∙ new_ext fs.exts ext in
     let node : P.node k ≡ ext.node.0 = ap (λ (x : Ext). x.node.0) new_at in
     let decl : P.decl k ≡ (decl_of fs.script ext).decl = ap (λ (x : Ext). (decl_of fs.script x).decl) new_at in
-    let new : Fields = after_admission fs ext number held promised clears_room global r in
+    let new : Fields = after_admission fs ext number held promised clears_room global tables r in
     let step_is : state (with_step t1 (Step.Admit number)) ≡ after =
     state-step t1 (Step.Admit number) run1 ∙ ap (λ (c : model.Core). model.admit P c) same in
     let held_cells : core.cells ≡ fs.held = sym kept.holds.held in
@@ -279,15 +296,15 @@ kept-admission fs ext number held promised clears_room global r kept admits is i
       admitted = omega arith;
       held = omega arith;
       within = omega arith;
-      present = λ v epoch lt last. kept.holds.present v epoch lt last ∙ sym (present_is v.0 (cases_eq v.0 (P.node k)));
+      present = λ v epoch lt last. present_is v epoch lt last node (cases_eq v.0 ext.node.0);
       global = rw is_global (grid-raised fs.script.nodes micros ext.node.0 fs.global core.global after.global (decl_of fs.script ext).decl known.node kept.holds.global
           (λ p. ap (λ (w : ℕ). core.global ext.node.0 p + w) (weight_at-is P k ext.node.0 p (sym node) ∙ ap (λ (d : Decl). weight d p) decl))
           (λ v p ne. let none : weight_at P k v p ≡ zero = weight_at-else P k v p (λ e. ne (e ∙ node)) in omega (arith, none)));
       local = kept.holds.local;
       slots = kept.holds.slots;
       size = (let more = length-append fs.running (r ∷ []) in omega (arith, more, size, longer, first_most));
-      running = each-push fs.running r (λ i x. Runs fs.script fs.tables (fs.exts ++ ext ∷ []) after (fs.first + i) x)
-          (subst (λ (j : ℕ). Runs fs.script fs.tables (fs.exts ++ ext ∷ []) after j r) (let e : n ≡ fs.first + length fs.running = omega (arith, size, first_most) in e) (runs-new fs ext r kept known is))
+      running = each-push fs.running r (λ i x. Runs fs.script tables (fs.exts ++ ext ∷ []) after (fs.first + i) x)
+          (subst (λ (j : ℕ). Runs fs.script tables (fs.exts ++ ext ∷ []) after j r) (let e : n ≡ fs.first + length fs.running = omega (arith, size, first_most) in e) (runs-new fs ext tables r kept known is))
           (λ i x lt there. old_runs i x (omega (arith, lt, size)) (kept.holds.running i x there));
       past = λ j lt. put-else {A = Bool} core.ended k j false (λ e. omega (arith, e, lt, all, first_most)) ∙ kept.holds.past j lt;
       unended = (let was : fs.unended ≡ unended core = kept.holds.unended in
@@ -298,8 +315,8 @@ kept-admission fs ext number held promised clears_room global r kept admits is i
     } in
     record {
       in_range = kept.in_range;
-      built = kept.built;
-      tables = kept.tables;
+      tables = is.changes.are;
+      epochs = λ v. (let before = kept.epochs v in let more = is.changes.few v in omega (arith, before, more, longer));
       micros = kept.micros;
       known = λ j lt. known_at j (omega (arith, lt, longer)) (cases_eq j n);
       is_run = is_run-with_step t1 (Step.Admit number) run1 due;
@@ -310,62 +327,72 @@ kept-admission fs ext number held promised clears_room global r kept admits is i
       holds = subst (λ (c : model.Core). Holds new c) (sym step_is) holds;
     }
   where
-    present_is : (v : ℕ) → (v ≡ (play (with_ext (trace_of fs) ext)).node (state (trace_of fs)).count) ⊎ (v ≢ (play (with_ext (trace_of fs) ext)).node (state (trace_of fs)).count)
-        → (model.admit (play (with_ext (trace_of fs) ext)) (state (trace_of fs))).present v ≡ (state (trace_of fs)).present v
-    present_is v (inl e) =
+    present_is : (v : NodeId) (epoch : ℕ) → v.0 < fs.script.nodes → epoch + 1 ≡ length (epochs_of tables v) → (play (with_ext (trace_of fs) ext)).node (state (trace_of fs)).count ≡ ext.node.0
+        → (v.0 ≡ ext.node.0) ⊎ (v.0 ≢ ext.node.0)
+        → table_at tables v epoch ≡ (model.admit (play (with_ext (trace_of fs) ext)) (state (trace_of fs))).present v.0
+    present_is v epoch lt last node (inl e) =
         let P : Play = play (with_ext (trace_of fs) ext) in
         let core : model.Core = state (trace_of fs) in
-        put-here {A = Table} core.present (P.node core.count) v (P.change core.count (core.present (P.node core.count))) e
-        ∙ (caused-same fs.script kept.built.unchanging (ext_at (fs.exts ++ ext ∷ []) core.count).cause (core.present (P.node core.count))
-        ∙ ap core.present (sym e))
-    present_is v (inr ne) =
+        let all : core.count ≡ length fs.exts = kept.holds.admitted in
+        let mine_at : ext_at (fs.exts ++ ext ∷ []) core.count ≡ ext = ap (λ (m : ℕ). ext_at (fs.exts ++ ext ∷ []) m) all ∙ new_ext fs.exts ext in
+        let at : epoch + 1 ≡ length (epochs_of tables ext.node) = last ∙ ap (λ (n : ℕ). length (get_or tables.epochs n [])) e in
+        ap (λ (n : ℕ). get_or (get_or tables.epochs n []) epoch []) e
+        ∙ (new-table fs ext tables epoch kept is.changes admits.known.node at
+        ∙ (ap (λ (x : Ext). caused fs.script x.cause (core.present x.node.0)) (sym mine_at)
+        ∙ sym (put-here {A = Table} core.present (P.node core.count) v.0 (P.change core.count (core.present (P.node core.count))) (e ∙ sym node))))
+    present_is v epoch lt last node (inr ne) =
         let P : Play = play (with_ext (trace_of fs) ext) in
         let core : model.Core = state (trace_of fs) in
-        put-else {A = Table} core.present (P.node core.count) v (P.change core.count (core.present (P.node core.count))) ne
+        let same : epochs_of tables v ≡ epochs_of fs.tables v = is.changes.others v ne in
+        ap (λ (ts : List Table). get_or ts epoch []) same
+        ∙ (kept.holds.present v epoch lt (last ∙ ap (λ (ts : List Table). length ts) same)
+        ∙ sym (put-else {A = Table} core.present (P.node core.count) v.0 (P.change core.count (core.present (P.node core.count))) (λ e. ne (e ∙ node))))
 
     same_turn : {low high from to : ℕ} → from ≡ low → to ≡ high → (let i : Interval = record { from = from; to = to } in i) ≡ record { from = low; to = high }
     same_turn {low = low} {high = high} {from = from} {to = to} e f = ap (λ (x : ℕ). let i : Interval = record { from = x; to = to } in i) e ∙ ap (λ (y : ℕ). let i : Interval = record { from = low; to = y } in i) f
 
     old_runs : (i : ℕ) (x : Running) → fs.first + i < length fs.exts → Runs fs.script fs.tables fs.exts (state (trace_of fs)) (fs.first + i) x
-        → Runs fs.script fs.tables (fs.exts ++ ext ∷ []) (model.admit (play (with_ext (trace_of fs) ext)) (state (trace_of fs))) (fs.first + i) x
+        → Runs fs.script tables (fs.exts ++ ext ∷ []) (model.admit (play (with_ext (trace_of fs) ext)) (state (trace_of fs))) (fs.first + i) x
     old_runs i x lt old =
         let P : Play = play (with_ext (trace_of fs) ext) in
         let core : model.Core = state (trace_of fs) in
         let all : core.count ≡ length fs.exts = kept.holds.admitted in
         let other : fs.first + i ≢ core.count = (λ e. omega (arith, e, lt, all)) in
-        runs-on fs.script fs.tables fs.exts (fs.exts ++ ext ∷ []) core (model.admit P core) (fs.first + i) x (omega (arith, lt, all))
+        runs-in fs.script fs.tables tables (fs.exts ++ ext ∷ []) (model.admit P core) (fs.first + i) ext x is.changes
+        (runs-on fs.script fs.tables fs.exts (fs.exts ++ ext ∷ []) core (model.admit P core) (fs.first + i) x (omega (arith, lt, all))
         (old_ext fs.exts ext (fs.first + i) lt)
         (λ v p. same_turn (ap (λ (f : At ℕ). f v p) (put-else {A = At ℕ} core.from core.count (fs.first + i) _ other)) (ap (λ (f : At ℕ). f v p) (put-else {A = At ℕ} core.private core.count (fs.first + i) _ other)))
         (put-else {A = Computation} core.comp core.count (fs.first + i) _ other) (put-else {A = Table} core.table core.count (fs.first + i) _ other)
-        (put-else {A = Bool} core.ended core.count (fs.first + i) false other) old
+        (put-else {A = Bool} core.ended core.count (fs.first + i) false other) old)
 
     known_at : (j : ℕ) → j < suc (length fs.exts) → (j ≡ length fs.exts) ⊎ (j ≢ length fs.exts) → IsExtOf fs.script (ext_at (fs.exts ++ ext ∷ []) j)
     known_at j lt (inl e) = rw (e, new_ext fs.exts ext) admits.known
     known_at j lt (inr ne) = rw (old_ext fs.exts ext j (omega (arith, lt, ne))) (kept.known j (omega (arith, lt, ne)))
 
 -- the same, by what an admission's parts say of the number of its declaration
-pub kept-taken : (fs : Fields) (ext : Ext) (number held steps clears_room n m : ℕ) (d : DeclDef) (global : List ℕ) (r : Running) → Kept fs → Admits (trace_of fs) ext
-    → r.node ≡ ext.node → r.epoch + 1 ≡ length (epochs_of fs.tables ext.node) → r.ended ≡ false → r.calls ≡ started fs.script fs.tables ext → r.calls.comp.waiting ≡ []
-    → n ≡ r.calls.decl → m ≡ r.calls.decl → d ≡ decl_at fs.script n → steps ≡ steps_of d + 1
+pub kept-taken : (fs : Fields) (ext : Ext) (number held steps clears_room n m : ℕ) (d : DeclDef) (global : List ℕ) (tables : Bindings) (r : Running) → Kept fs → Admits (trace_of fs) ext
+    → ChangesTables fs.script fs.tables tables ext.node ext.cause
+    → r.node ≡ ext.node → r.epoch + 1 ≡ length (epochs_of tables ext.node) → r.ended ≡ false → r.calls ≡ started fs.script tables ext → r.calls.comp.waiting ≡ []
+    → n ≡ decl_number fs.script ext → m ≡ decl_number fs.script ext → d ≡ decl_at fs.script n → steps ≡ steps_of d + 1
     → r.turns.items ≡ turns_taken (decl_at fs.script m).decl (length fs.script.micros) ext.node.0 fs.global (length fs.script.micros)
     → global ≡ raised (decl_at fs.script m).decl (length fs.script.micros) ext.node.0 fs.global (length fs.script.micros)
     → number ≡ length fs.exts + 1 → held ≡ fs.held + cells_of fs.script ext → length fs.clears < clears_room
-    → Kept (after_admission fs ext number held (fs.promised + steps - 1) clears_room global r)
-kept-taken fs ext number held steps clears_room n m d global r kept admits node epoch unended calls waits is_n is_m is_d is_steps turns is_global is_number is_held clears =
-    let decl : r.calls.decl ≡ decl_number fs.script ext = ap (λ (h : Held). h.decl) calls in
-    let of : d ≡ decl_of fs.script ext = is_d ∙ ap (λ (i : ℕ). decl_at fs.script i) (is_n ∙ decl) in
+    → Kept (after_admission fs ext number held (fs.promised + steps - 1) clears_room global tables r)
+kept-taken fs ext number held steps clears_room n m d global tables r kept admits changes node epoch unended calls waits is_n is_m is_d is_steps turns is_global is_number is_held clears =
+    let of : d ≡ decl_of fs.script ext = is_d ∙ ap (λ (i : ℕ). decl_at fs.script i) is_n in
     let many : steps ≡ steps_of (decl_of fs.script ext) + 1 = is_steps ∙ ap (λ (x : DeclDef). steps_of x + 1) of in
-    kept-admission fs ext number held (fs.promised + steps - 1) clears_room global r kept admits
+    kept-admission fs ext number held (fs.promised + steps - 1) clears_room global tables r kept admits
     (record {
+      changes = changes;
       node = node;
       epoch = epoch;
-      turns = turns ∙ ap (λ (i : ℕ). turns_taken (decl_at fs.script i).decl (length fs.script.micros) ext.node.0 fs.global (length fs.script.micros)) (is_m ∙ decl);
+      turns = turns ∙ ap (λ (i : ℕ). turns_taken (decl_at fs.script i).decl (length fs.script.micros) ext.node.0 fs.global (length fs.script.micros)) is_m;
       calls = calls;
       none_waits = waits;
       unended = unended;
     })
     is_number is_held (omega (arith, many)) clears
-    (is_global ∙ ap (λ (i : ℕ). raised (decl_at fs.script i).decl (length fs.script.micros) ext.node.0 fs.global (length fs.script.micros)) (is_m ∙ decl))
+    (is_global ∙ ap (λ (i : ℕ). raised (decl_at fs.script i).decl (length fs.script.micros) ext.node.0 fs.global (length fs.script.micros)) is_m)
 
 -- how many haven't ended
 pub unended-fits : (fs : Fields) → Kept fs → fs.unended ≤ 100000

@@ -80,7 +80,7 @@ kept-clear fs first promised kept all held is_first is_promised =
     } in
     record {
       in_range = kept.in_range;
-      built = kept.built;
+      epochs = kept.epochs;
       tables = kept.tables;
       micros = kept.micros;
       known = kept.known;

@@ -41,7 +41,6 @@ sound fs kept = record {
   run = kept.is_run;
   all = kept.holds.admitted;
   in_range = kept.in_range;
-  built = kept.built;
   known = kept.known;
   cleared = subst (λ (n : ℕ). n ≤ length fs.exts) kept.first kept.first_most;
   past = λ k lt. kept.holds.past k (subst (λ (n : ℕ). k < n) (sym kept.first) lt);

@@ -3,13 +3,13 @@ use Rattle.std.proofs.Common.{arith, ◌≡◌, ℕ, zero, suc, ◌+◌, ◌-◌
 use Rattle.std.specs.Prelude.{option_map, slice_get}
 use Rattle.std.proofs.lemmas.List.{length-map}
 use Rattle.std.proofs.lemmas.Option.{slice_get-map, slice_get-get_or}
-use Rattle.samoa_model.specs.Range.{IsBuilt, IsInRange}
-use Rattle.samoa_model.specs.Scripts.{Table, no_micro}
+use Rattle.samoa_model.specs.Range.{IsInRange}
+use Rattle.samoa_model.specs.Scripts.{Table, first_table, no_micro}
 use Rattle.samoa_model.specs.declared.ids.NodeId.{NodeId}
 use Rattle.samoa_model.specs.declared.record.Ext.{Ext}
 use Rattle.samoa_model.specs.declared.record.Step.{Step}
 use Rattle.samoa_model.specs.declared.script.Script.{Script}
-use Rattle.samoa_bind.specs.Bound.{first_tables}
+use Rattle.samoa_bind.specs.Bound.{Bindings, epochs_of, first_tables, table_at}
 use Rattle.samoa_calls.specs.Held.{handlers_of}
 use Rattle.samoa_calls.specs.Handed.{AreNamed}
 use Rattle.samoa_serial.specs.Calls.{Computation}
@@ -26,10 +26,10 @@ use Rattle.samoa_core.specs.declared.running.Running.{Running}
 use Rattle.samoa_core.specs.declared.running.Interval.{Interval}
 use Rattle.samoa_core.specs.Since.{cleared_comps}
 use Rattle.samoa_core.specs.Slots.{Slotted, row_of, rows_of, set_up_at}
-use Rattle.samoa_core.specs.Kept.{Fields, HasTable, Holds, Kept, Runs, trace_of}
+use Rattle.samoa_core.specs.Kept.{AreTables, Fields, HasTable, Holds, Kept, Runs, trace_of}
 use Rattle.samoa_core.proofs.Counts.{away-none}
 use Rattle.samoa_core.proofs.Grids.{grid-none, grid-row, grid-zeros, item_at, none_yet}
-use Rattle.samoa_core.proofs.Rules.{first-present, tables-first}
+use Rattle.samoa_core.proofs.Rules.{first-epochs, first-present, tables-first}
 use Rattle.samoa_core.proofs.Since.{cleared-opening, cleared-step}
 use Rattle.samoa_core.proofs.Toll.{IsNoAdmission, toll}
 
@@ -41,7 +41,7 @@ rows-grid script cells (suc nodes) =
     (length-map script.micros (set_up_at script nodes))
     (λ j lt. slice_get-map (set_up_at script nodes) script.micros j ∙ ap (option_map (set_up_at script nodes)) (slice_get-get_or script.micros j no_micro lt))
 
-abbrev new_fields : Script → List (List Table) → Slotted → List ℕ → List ℕ → ℕ → ℕ → Fields
+abbrev new_fields : Script → Bindings → Slotted → List ℕ → List ℕ → ℕ → ℕ → Fields
 new_fields script tables slots global local cells clears_room = record {
   script = script;
   cells = cells;
@@ -63,15 +63,15 @@ new_fields script tables slots global local cells clears_room = record {
 }
 
 -- a core that was just made
-pub kept-new : (script : Script) (tables : List (List Table)) (slots : Slotted) (global local : List ℕ) (cells clears_room : ℕ)
-    → IsInRange script → IsBuilt script
+pub kept-new : (script : Script) (tables : Bindings) (slots : Slotted) (global local : List ℕ) (cells clears_room : ℕ)
+    → IsInRange script
     → tables ≡ first_tables script → slots ≡ record { micros = length script.micros; boxes = rows_of script script.nodes }
     → global ≡ replicate (script.nodes * length script.micros) 0 → local ≡ replicate (script.nodes * length script.micros) 0
     → Kept (new_fields script tables slots global local cells clears_room)
-kept-new script tables slots global local cells clears_room in_range built is_tables is_slots is_global is_local = record {
+kept-new script tables slots global local cells clears_room in_range is_tables is_slots is_global is_local = record {
   in_range = in_range;
-  built = built;
   tables = rw is_tables (tables-first script in_range);
+  epochs = λ node. rw is_tables (first-epochs script node);
   micros = ap (λ (s : Slotted). s.micros) is_slots;
   known = λ k lt. absurd (omega (arith, lt));
   is_run = opening_is_run script cells;
@@ -83,7 +83,8 @@ kept-new script tables slots global local cells clears_room in_range built is_ta
     admitted = refl;
     held = refl;
     within = omega arith;
-    present = λ node epoch lt last. rw is_tables (first-present script node epoch lt (rw (← is_tables) last));
+    present = subst (λ (t : Bindings). (node : NodeId) (epoch : ℕ) → node.0 < script.nodes → epoch + 1 ≡ length (epochs_of t node) → table_at t node epoch ≡ first_table script)
+        (sym is_tables) (first-present script);
     global = subst (λ (cs : List ℕ). Grid {A = ℕ} script.nodes (length script.micros) cs none_yet) (sym is_global) (grid-zeros script.nodes (length script.micros));
     local = subst (λ (cs : List ℕ). Grid {A = ℕ} script.nodes (length script.micros) cs none_yet) (sym is_local) (grid-zeros script.nodes (length script.micros));
     slots = subst (λ (s : Slotted). Grid script.nodes (length script.micros) s.boxes (slot_in script (state (opening_trace script cells)))) (sym is_slots) (rows-grid script cells script.nodes);
@@ -134,7 +135,7 @@ kept-with fs step local slots running unended away stopped kept due fit micros h
     let left : to_come (play t) after ≤ fs.promised - 1 = omega (arith, less, enough) in
     record {
       in_range = kept.in_range;
-      built = kept.built;
+      epochs = kept.epochs;
       tables = kept.tables;
       micros = micros;
       known = kept.known;
@@ -147,7 +148,7 @@ kept-with fs step local slots running unended away stopped kept due fit micros h
     }
 
 -- a computation of which nothing changes
-pub runs-on : (script : Script) (tables : List (List Table)) (exts more : List Ext) (core after : model.Core) (k : ℕ) (r : Running) → k < after.count
+pub runs-on : (script : Script) (tables : Bindings) (exts more : List Ext) (core after : model.Core) (k : ℕ) (r : Running) → k < after.count
     → ext_at more k ≡ ext_at exts k → ((v p : ℕ) → turn_of after k v p ≡ turn_of core k v p) → after.comp k ≡ core.comp k → after.table k ≡ core.table k
     → after.ended k ≡ core.ended k → Runs script tables exts core k r → Runs script tables more after k r
 runs-on script tables exts more core after k r lt ext turn comp table ended runs = record {
@@ -200,12 +201,23 @@ running-is fs t comp r view kept since most e =
     let runs = runs-at fs comp r kept since_here (there fs (comp - 1 - fs.first) r (place-within fs comp kept since_here most_here) e) in
     subst (λ (x : Trace). IsRunning x.script x.exts (state x) (comp - 1) r) view runs.is
 
--- more room for clears
-pub kept-room : (fs : Fields) (clears_room : ℕ) → Kept fs → fs.clears_room ≤ clears_room → Kept (record fs { clears_room = clears_room })
-kept-room fs clears_room kept more = record {
+-- a computation in tables that have more room
+runs-room : (script : Script) (tables : Bindings) (room : ℕ) (exts : List Ext) (core : model.Core) (k : ℕ) (r : Running) → Runs script tables exts core k r
+    → Runs script (record tables { room = room }) exts core k r
+runs-room script tables room exts core k r runs = record {
+  is = runs.is;
+  table = record { epoch = runs.table.epoch; table = runs.table.table; named = runs.table.named };
+}
+
+pub tables-room : (script : Script) (tables : Bindings) (room : ℕ) → AreTables script tables → AreTables script (record tables { room = room })
+tables-room script tables room are = record { size = are.size; changes = are.changes; some = are.some; counted = are.counted; events = are.events }
+
+-- more room for clears, and room for a change or none
+pub kept-room : (fs : Fields) (clears_room room : ℕ) → Kept fs → fs.clears_room ≤ clears_room → Kept (record fs { clears_room = clears_room; tables = record fs.tables { room = room } })
+kept-room fs clears_room room kept more = record {
   in_range = kept.in_range;
-  built = kept.built;
-  tables = kept.tables;
+  tables = tables-room fs.script fs.tables room kept.tables;
+  epochs = kept.epochs;
   micros = kept.micros;
   known = kept.known;
   is_run = kept.is_run;
@@ -222,7 +234,7 @@ kept-room fs clears_room kept more = record {
     local = kept.holds.local;
     slots = kept.holds.slots;
     size = kept.holds.size;
-    running = kept.holds.running;
+    running = λ i r is. runs-room fs.script fs.tables room fs.exts (state (trace_of fs)) (fs.first + i) r (kept.holds.running i r is);
     past = kept.holds.past;
     unended = kept.holds.unended;
     away = kept.holds.away;

@@ -12,6 +12,7 @@ pub mod Ended
 pub mod Keeps
 pub mod Versioned
 pub mod Rising
+pub mod Tabled
 pub mod Taken
 pub mod Quiets
 pub mod Answered

@@ -21,22 +21,6 @@ use Rattle.samoa_invariant.specs.Play.{table_at, table_of}
 use Rattle.samoa_invariant.specs.Runs.{Trace, ext_at, play}
 use Rattle.samoa_core.specs.Known.{decl_number}
 
--- where no binding changes, no table does
-pub caused-same : (script : Script) → script.changes ≡ [] → (cause : Cause) (table : Table) → caused script cause table ≡ table
-caused-same script none (Event event) table = refl
-caused-same script none (Change change) table = ap (λ (cs : List ChangeDef). rebound (get_or cs change.0 no_change).table table) none
-
-pub table-at : (t : Trace) → IsBuilt t.script → (k v : ℕ) → table_at (play t) k v ≡ first_table t.script
-table-at t built zero v = refl
-table-at t built (suc k) v = here (v == (play t).node k) ∙ table-at t built k v
-  where
-    here : (b : Bool) → (if b then (play t).change k (table_at (play t) k v) else table_at (play t) k v) ≡ table_at (play t) k v
-    here true = caused-same t.script built.unchanging (ext_at t.exts k).cause (table_at (play t) k v)
-    here false = refl
-
-pub table-of : (t : Trace) → IsBuilt t.script → (k : ℕ) → table_of (play t) k ≡ first_table t.script
-table-of t built k = table-at t built (suc k) ((play t).node k)
-
 pub decl-within : (script : Script) (ext : Ext) → IsInRange script → IsExtOf script ext → decl_number script ext < length script.decls
 decl-within script ext in_range known = go ext.cause known.cause
   where
@@ -78,6 +62,8 @@ first_at script node epoch lt = go (cases_lt node.0 script.nodes)
 pub tables-first : (script : Script) → IsInRange script → AreTables script (first_tables script)
 tables-first script in_range = record {
   size = length-replicate script.nodes (first_table script ∷ []);
+  changes = refl;
+  some = λ node lt. let one : length (epochs_of (first_tables script) node) ≡ 1 = ap length (tables-at script.nodes (first_table script) node.0 lt) in omega (arith, one);
   counted = λ node epoch lt. rw (first_at script node epoch lt) (counted script in_range);
   events = λ node epoch lt. ap length (first_at script node epoch lt) ∙ length-map script.events (λ (e : EventDef). e.handlers);
 }
@@ -85,3 +71,10 @@ tables-first script in_range = record {
 pub first-present : (script : Script) (node : NodeId) (epoch : ℕ) → node.0 < script.nodes → epoch + 1 ≡ length (epochs_of (first_tables script) node)
     → bound_at (first_tables script) node epoch ≡ first_table script
 first-present script node epoch lt last = first_at script node epoch (omega (arith, last))
+
+pub first-epochs : (script : Script) (node : NodeId) → length (epochs_of (first_tables script) node) ≤ 1
+first-epochs script node = go (cases_lt node.0 script.nodes)
+  where
+    go : (node.0 < script.nodes) ⊎ (script.nodes ≤ node.0) → length (epochs_of (first_tables script) node) ≤ 1
+    go (inl below) = (let one : length (epochs_of (first_tables script) node) ≡ 1 = ap length (tables-at script.nodes (first_table script) node.0 below) in omega (arith, one))
+    go (inr le) = (let none : length (epochs_of (first_tables script) node) ≡ 0 = ap length (tables-past script.nodes (first_table script) node.0 le) in omega (arith, none))

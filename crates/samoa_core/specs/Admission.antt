@@ -1,9 +1,11 @@
 -- What an admission does.
 use Rattle.std.specs.Prelude.{ℕ, zero, suc, ◌+◌, ◌-◌, ◌*◌, List, [], ◌∷◌, ◌++◌, length, get_or, set}
 use Rattle.samoa_model.specs.Allowed.{weight}
-use Rattle.samoa_model.specs.Scripts.{Table, decl_of, root_of}
+use Rattle.samoa_model.specs.Scripts.{decl_of, root_of}
 use Rattle.samoa_model.specs.declared.ids.NodeId.{NodeId}
-use Rattle.samoa_bind.specs.Bound.{epochs_of, table_at}
+use Rattle.samoa_model.specs.declared.record.Cause.{Cause}
+use Rattle.samoa_model.specs.declared.record.Cause.TheVariants.{Event, Change}
+use Rattle.samoa_bind.specs.Bound.{Bindings, last_table, with_change}
 use Rattle.samoa_model.specs.declared.record.Ext.{Ext}
 use Rattle.samoa_model.specs.declared.record.Step.{Step}
 use Rattle.samoa_model.specs.declared.script.Decl.{Decl}
@@ -28,12 +30,13 @@ most_admitted = 100000
 abbrev pub most_versions : ℕ
 most_versions = 25600000
 
--- the present table of a node, which is that of its last epoch
-abbrev pub last_table : List (List Table) → NodeId → Table
-last_table tables node = table_at tables node (length (epochs_of tables node) - 1)
+-- the tables after an admission at a node: a rebinding makes its change
+abbrev pub tables_after : Bindings → NodeId → Cause → Bindings
+tables_after tables node (Event event) = tables
+tables_after tables node (Change change) = record tables { epochs = with_change tables node change; room = 0 }
 
--- a computation that has just begun
-abbrev pub started : Script → List (List Table) → Ext → Held
+-- a computation that has just begun, by the present table of its node
+abbrev pub started : Script → Bindings → Ext → Held
 started script tables ext =
     let decl = decl_of script ext in
     record {

@@ -1,12 +1,11 @@
 -- What the fields of a core hold.
-use Rattle.std.specs.Prelude.{◌≡◌, ◌≤◌, ◌<◌, ◌+◌, ◌-◌, ℕ, Bool, true, List, Some, length, slice_get}
+use Rattle.std.specs.Prelude.{◌≡◌, ◌≤◌, ◌<◌, ◌+◌, ◌-◌, ℕ, Bool, true, List, Some, length, map, slice_get}
 use Rattle.samoa_model.specs.declared.ids.NodeId.{NodeId}
 use Rattle.samoa_model.specs.declared.record.Ext.{Ext}
 use Rattle.samoa_model.specs.declared.record.Step.{Step}
 use Rattle.samoa_model.specs.declared.script.Script.{Script}
-use Rattle.samoa_model.specs.Scripts.{Table}
-use Rattle.samoa_model.specs.Range.{IsBuilt, IsExtOf, IsInRange}
-use Rattle.samoa_bind.specs.Bound.{epochs_of, table_at}
+use Rattle.samoa_model.specs.Range.{IsExtOf, IsInRange}
+use Rattle.samoa_bind.specs.Bound.{Bindings, epochs_of, table_at}
 use Rattle.samoa_calls.specs.Handed.{AreNamed, IsCounted}
 use Rattle.samoa_invariant.specs.State as model
 use Rattle.samoa_invariant.specs.State.{sum_to, to_end}
@@ -24,7 +23,7 @@ pub record Fields : Type 0 where
   pub script : Script
   pub cells : ℕ
   pub held : ℕ
-  pub tables : List (List Table)
+  pub tables : Bindings
   pub slots : Slotted
   pub global : List ℕ
   pub local : List ℕ
@@ -42,20 +41,22 @@ pub record Fields : Type 0 where
 abbrev pub trace_of : Fields → Trace
 trace_of fs = record { script = fs.script; cells = fs.cells; exts = fs.exts; clears = fs.clears; journal = fs.journal }
 
--- each node has tables for the script's events, the last of which is the present one
-pub record AreTables (script : Script) (tables : List (List Table)) : Type 0 where
-  pub size : length tables ≡ script.nodes
+-- each node has tables for the script's events, and the changes are those of the script
+pub record AreTables (script : Script) (tables : Bindings) : Type 0 where
+  pub size : length tables.epochs ≡ script.nodes
+  pub changes : tables.changes ≡ map (λ c. c.table) script.changes
+  pub some : (node : NodeId) → node.0 < script.nodes → 0 < length (epochs_of tables node)
   pub counted : (node : NodeId) (epoch : ℕ) → epoch < length (epochs_of tables node) → IsCounted (table_at tables node epoch)
   pub events : (node : NodeId) (epoch : ℕ) → epoch < length (epochs_of tables node) → length (table_at tables node epoch) ≡ length script.events
 
 -- the table of computation k is that of its epoch, and names the events of its waiting calls
-pub record HasTable (tables : List (List Table)) (core : model.Core) (k : ℕ) (r : Running) : Type 0 where
+pub record HasTable (tables : Bindings) (core : model.Core) (k : ℕ) (r : Running) : Type 0 where
   pub epoch : r.epoch < length (epochs_of tables r.node)
   pub table : table_at tables r.node r.epoch ≡ core.table k
   pub named : AreNamed (core.table k) (core.comp k).waiting
 
 -- it is computation k
-pub record Runs (script : Script) (tables : List (List Table)) (exts : List Ext) (core : model.Core) (k : ℕ) (r : Running) : Type 0 where
+pub record Runs (script : Script) (tables : Bindings) (exts : List Ext) (core : model.Core) (k : ℕ) (r : Running) : Type 0 where
   pub is : IsRunning script exts core k r
   pub table : HasTable tables core k r
 
@@ -81,8 +82,8 @@ pub record Holds (fs : Fields) (core : model.Core) : Type 0 where
 
 pub record Kept (fs : Fields) : Type 0 where
   pub in_range : IsInRange fs.script
-  pub built : IsBuilt fs.script
   pub tables : AreTables fs.script fs.tables
+  pub epochs : (node : NodeId) → length (epochs_of fs.tables node) ≤ length fs.exts + 1
   pub micros : fs.slots.micros ≡ length fs.script.micros
   pub known : (k : ℕ) → k < length fs.exts → IsExtOf fs.script (ext_at fs.exts k)
   pub is_run : IsRun (trace_of fs)

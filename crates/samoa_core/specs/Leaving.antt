@@ -2,8 +2,8 @@
 use Rattle.std.specs.Prelude.{◌≡◌, ℕ, ◌+◌, ◌*◌, ◌<◌, List, ◌∷◌, length, IfSome}
 use Rattle.samoa_model.specs.declared.handler.Outcome.{Outcome}
 use Rattle.samoa_model.specs.declared.script.Script.{Script}
-use Rattle.samoa_model.specs.Scripts.{Table, decl_at}
-use Rattle.samoa_bind.specs.Bound.{epochs_of, table_at}
+use Rattle.samoa_model.specs.Scripts.{decl_at}
+use Rattle.samoa_bind.specs.Bound.{Bindings, epochs_of, table_at}
 use Rattle.samoa_calls.specs.Held.{handlers_of}
 use Rattle.samoa_calls.specs.Handed.{AreNamed, IsCounted, IsNamed, ended_at}
 use Rattle.samoa_serial.specs.declared.call.Active.{Active}
@@ -14,7 +14,7 @@ use Rattle.samoa_core.specs.declared.running.Running.{Running}
 
 -- it has an active call and takes an outcome by the table of its epoch, and a call that this completes has a version that was
 -- given and isn't done with
-pub record TakesOutcome (script : Script) (tables : List (List Table)) (versions : Counters) (r : Running) (o : Outcome) : Type 0 where
+pub record TakesOutcome (script : Script) (tables : Bindings) (versions : Counters) (r : Running) (o : Outcome) : Type 0 where
   pub decl : r.calls.decl < length script.decls
   pub first : Active
   pub rest : List Active
@@ -27,7 +27,7 @@ pub record TakesOutcome (script : Script) (tables : List (List Table)) (versions
   pub there : IfSome (ended_at first.call o) (λ micro. r.node.0 * length script.micros + micro.0 < length versions.gv)
   pub below : IfSome (ended_at first.call o) (λ micro. lv_at versions (r.node.0 * length script.micros + micro.0) < gv_at versions (r.node.0 * length script.micros + micro.0))
 
-abbrev pub taken : Script → List (List Table) → Running → Outcome → Running
+abbrev pub taken : Script → Bindings → Running → Outcome → Running
 taken script tables r o =
     let table = table_at tables r.node r.epoch in
     let comp = take_outcome (attempts_of (decl_at script r.calls.decl).decl table) r.calls.comp o in

@@ -1,7 +1,7 @@
 -- What holds of every core.
 use Rattle.std.specs.Prelude.{◌≡◌, ℕ, ◌<◌, ◌≤◌, length, true}
 use Rattle.samoa_model.specs.Allowed.{weight}
-use Rattle.samoa_model.specs.Range.{IsBuilt, IsExtOf, IsInRange}
+use Rattle.samoa_model.specs.Range.{IsExtOf, IsInRange}
 use Rattle.samoa_invariant.specs.Play.{Play}
 use Rattle.samoa_invariant.specs.State as model
 use Rattle.samoa_invariant.specs.Runs.{IsRun, Trace, ext_at, state}
@@ -12,7 +12,6 @@ pub record IsSound (t : Trace) : Type 0 where
   pub run : IsRun t
   pub all : (state t).count ≡ length t.exts
   pub in_range : IsInRange t.script
-  pub built : IsBuilt t.script
   pub known : (k : ℕ) → k < length t.exts → IsExtOf t.script (ext_at t.exts k)
   pub cleared : cleared_comps t ≤ length t.exts
   pub past : (k : ℕ) → k < cleared_comps t → (state t).ended k ≡ true

@@ -3,11 +3,15 @@ ghost use Rattle.std.specs.Prelude.{◌≡◌, ℕ, ◌<◌, ◌≤◌, ◌+◌,
 ghost use Rattle.samoa_model.specs.Allowed.{weight};
 ghost use Rattle.samoa_model.specs.Cells.{cells_of as computation_cells};
 ghost use Rattle.samoa_model.specs.Range.{IsExtOf, IsInRange};
-ghost use Rattle.samoa_model.specs.Scripts.{decl_at};
+ghost use Rattle.samoa_model.specs.Scripts.{decl_at, decl_of};
+ghost use Rattle.samoa_model.specs.declared.ids.ChangeId.{ChangeId};
+ghost use Rattle.samoa_model.specs.declared.record.Cause.TheVariants.{Change};
+ghost use Rattle.samoa_bind.specs.Bound.{epochs_of};
+ghost use Rattle.samoa_core.specs.Known.{decl_number as declaration_number};
 ghost use Rattle.samoa_calls.specs.Handed.{fresh};
 ghost use Rattle.samoa_invariant.specs.Runs.{Trace, state};
 ghost use Rattle.samoa_versions.specs.Counters.{gv_at};
-ghost use Rattle.samoa_core.specs.Admission.{admitted, most_admitted, most_versions, raised, started, steps_of as steps_to_come, turns_taken, version_after};
+ghost use Rattle.samoa_core.specs.Admission.{admitted, most_admitted, most_versions, raised, started, steps_of as steps_to_come, tables_after, turns_taken, version_after};
 ghost use Rattle.samoa_core.specs.Kept.{AreTables};
 ghost use Rattle.samoa_core.specs.Later.{IsStill};
 ghost use Rattle.samoa_core.specs.Since.{cleared_comps};
@@ -21,7 +25,7 @@ use crate::running::{Interval, Running};
 use samoa_bind::Tables;
 use samoa_calls::Comp;
 use samoa_micro::Micro;
-use samoa_model::{Decl, DeclDef, Ext, NoMemory, NodeId, Script, Step};
+use samoa_model::{Cause, Decl, DeclDef, Ext, NoMemory, NodeId, Script, Step};
 use samoa_versions::Versions;
 use std::alloc::Global;
 
@@ -61,17 +65,16 @@ impl<B: Micro> Core<B> {
         ensures err { OnErr result (self.new ≡ self.old) }
     {
         let spare = self.spare.pop();
-        let (calls, turns) = begun(alloc, &self.script, &self.tables, ext, spare)?;
+        let number = decl_number(&self.script, ext);
+        let (calls, turns) = room_for_calls(alloc, &self.script, number, spare)?;
         room_for_one(&mut self.exts, &mut self.running, &mut self.clears)?;
-        let steps = steps_for(decl_in(&self.script, calls.decl()))?;
+        room_for_change(&mut self.tables, ext.cause)?;
+        let steps = steps_for(decl_in(&self.script, number))?;
         self.journal.promise(steps)?;
-        let turns = turns_of(
-            &self.script,
-            calls.decl(),
-            ext.node,
-            &mut self.versions,
-            turns,
-        );
+        // From here on no memory is needed.
+        change_tables(&mut self.tables, ext);
+        let calls = begun(&self.script, &self.tables, ext, calls);
+        let turns = turns_of(&self.script, number, ext.node, &mut self.versions, turns);
         let running = Running {
             node: ext.node,
             epoch: self.tables.current(ext.node),
@@ -109,31 +112,68 @@ fn room_for_one(
     Ok(())
 }
 
-/// The calls of an admission, begun, and room for its turns, in the memory of the spare record if there is one. All room
-/// that it can need is made, or there was no memory.
-fn begun(
+/// Makes room for a change of bindings, if there is one.
+fn room_for_change(tables: &mut Tables, cause: Cause) -> Result<(), NoMemory>
+    ensures tables { tables.new ≡ record tables.old { room = tables.new.room } }
+    ensures room { OnOk result ((change : ChangeId) → cause ≡ Change change → 0 < tables.new.room) }
+{
+    if let Cause::Change(_) = cause {
+        tables.reserve()?;
+    }
+    Ok(())
+}
+
+/// Makes the change of bindings of an admission, if there is one, for which there is room.
+fn change_tables(tables: &mut Tables, ext: &Ext)
+    requires node { ext.now.node.0 < length tables.old.epochs }
+    requires change { (change : ChangeId) → ext.now.cause ≡ Change change → change.0 < length tables.old.changes }
+    requires room { (change : ChangeId) → ext.now.cause ≡ Change change → 0 < tables.old.room }
+    requires few { length (epochs_of tables.old ext.now.node) < 4294967296 }
+    ensures { tables.new ≡ tables_after tables.old ext.now.node ext.now.cause }
+{
+    match ext.cause {
+        Cause::Event(_) => {}
+        Cause::Change(change) => {
+            tables.rebind(ext.node, change);
+        }
+    }
+}
+
+/// The calls of a computation that hasn't begun, and a list of no turns with room for them, in the memory of the spare
+/// record if there is one. All room that they can need is made, or there was no memory.
+fn room_for_calls(
     alloc: Global,
     script: &Script,
-    tables: &Tables,
-    ext: &Ext,
+    decl: u32,
     spare: Option<Running>,
 ) -> Result<(Comp, Vec<Interval>), NoMemory>
     requires in_range { IsInRange script.now }
-    requires tables { AreTables script.now tables.now }
-    requires known { IsExtOf script.now ext.now }
-    ensures calls { IfOk result (λ r. r.0 ≡ started script.now tables.now ext.now) }
-    ensures none_waits { IfOk result (λ r. r.0.comp.waiting ≡ []) }
+    requires decl { decl < length script.now.decls }
+    ensures calls { IfOk result (λ r. r.0 ≡ record { decl = decl; comp = fresh (decl_at script.now decl).budget; waiting_handlers = [] }) }
     ensures turns { IfOk result (λ r. r.1.items ≡ []) }
     ensures room { IfOk result (λ r. length script.now.micros ≤ vec_capacity r.1) }
 {
-    let number = decl_number(script, ext);
-    let decl = decl_in(script, number);
-    let root = root_of(script, ext.cause);
-    let (mut calls, mut turns) = fresh_parts(alloc, spare, number, decl.budget)?;
+    let budget = decl_in(script, decl).budget;
+    let (calls, mut turns) = fresh_parts(alloc, spare, decl, budget)?;
     turns.reserve(script.micros.len())?;
+    Ok((calls, turns))
+}
+
+/// The calls of an admission, begun by the present table of its node.
+fn begun(script: &Script, tables: &Tables, ext: &Ext, calls: Comp) -> Comp
+    requires in_range { IsInRange script.now }
+    requires tables { AreTables script.now tables.now }
+    requires known { IsExtOf script.now ext.now }
+    requires calls { calls ≡ record { decl = declaration_number script.now ext.now; comp = fresh (decl_of script.now ext.now).budget; waiting_handlers = [] } }
+    ensures calls { result ≡ started script.now tables.now ext.now }
+    ensures none_waits { result.comp.waiting ≡ [] }
+{
+    let mut calls = calls;
+    let decl = decl_in(script, decl_number(script, ext));
+    let root = root_of(script, ext.cause);
     let handlers = tables.resolve(ext.node, tables.current(ext.node), root);
     calls.start(&decl.decl, handlers, root, ext.args);
-    Ok((calls, turns))
+    calls
 }
 
 /// The calls of a computation that hasn't begun, and a list of no turns, in the memory of the spare record if there is one.

@@ -1,7 +1,7 @@
 //! The core: what it holds, and what is read of it.
 ghost use Rattle.std.specs.Prelude.{◌≡◌, ℕ, ◌<◌, ◌≤◌, ◌+◌, ◌-◌, ◌↔◌, length, None, true, false, IsTrue, IfOk, IfSome};
 ghost use Rattle.samoa_model.specs.Cells.{cells_of as computation_cells, need};
-ghost use Rattle.samoa_model.specs.Range.{IsBuilt, IsDeclOf, IsExtOf, IsInRange};
+ghost use Rattle.samoa_model.specs.Range.{IsDeclOf, IsExtOf, IsInRange};
 ghost use Rattle.samoa_model.specs.declared.record.Step.{Step};
 ghost use Rattle.samoa_calls.specs.Handed.{next_moment};
 ghost use Rattle.samoa_micro.specs.Covers.{Covers};
@@ -71,7 +71,6 @@ impl<B: Micro> Core<B> {
         cells: u32,
     ) -> Result<Core<B>, NoMemory>
         requires in_range { IsInRange script.now }
-        requires built { IsBuilt script.now }
         requires covers { Covers script.now stock }
         requires cells { need script.now ≤ cells }
         ensures { IfOk result (λ core. core ≡ opening_trace script.now cells) }
@@ -123,7 +122,6 @@ impl<B: Micro> Core<B> {
         ensures run { IsRun self.now }
         ensures all { (state self.now).count ≡ length self.now.exts }
         ensures in_range { IsInRange self.now.script }
-        ensures built { IsBuilt self.now.script }
         ensures known { (k : ℕ) → k < length self.now.exts → IsExtOf self.now.script (ext_at self.now.exts k) }
         ensures cleared { cleared_comps self.now ≤ length self.now.exts }
         ensures past { (k : ℕ) → k < cleared_comps self.now → (state self.now).ended k ≡ true }

@@ -1,6 +1,6 @@
 use Rattle.std.proofs.Common.{◌∙◌, ◌*◌, ℕ, ap, replicate, subst, sym}
 use Rattle.samoa_model.specs.declared.script.Script.{Script}
-use Rattle.samoa_model.specs.Range.{IsInRange, IsBuilt}
+use Rattle.samoa_model.specs.Range.{IsInRange}
 use Rattle.samoa_micro.specs.Covers.{Covers}
 use Rattle.samoa_versions.specs.Counters.{Counters}
 use Rattle.samoa_core.proofs.Keeps.{kept-new}
@@ -16,6 +16,5 @@ invariant_of-result g c =
     rw (c.new-3.ensures.items, c.new-4.ensures.items, c.new-5.ensures, c.new-6.ensures.items)
     (kept-new script c.in_ok-tables.tables c.in_ok-slots.slots c.in_ok-versions.versions.gv c.in_ok-versions.versions.lv c.args.cells _
     (subst IsInRange (sym c.in_ok-script.ensures) c.requires.in_range)
-    (subst IsBuilt (sym c.in_ok-script.ensures) c.requires.built)
     c.in_ok-tables.ensures c.in_ok-slots.ensures
     (ap (λ (v : Counters). v.gv) c.in_ok-versions.ensures ∙ many) (ap (λ (v : Counters). v.lv) c.in_ok-versions.ensures ∙ many))

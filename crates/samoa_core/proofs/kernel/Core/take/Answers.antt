@@ -6,12 +6,18 @@ use Rattle.samoa_model.specs.declared.record.Ext.{Ext}
 use Rattle.samoa_core.specs.Kept.{Fields, trace_of}
 use Rattle.samoa_core.proofs.Admitted.{Admits, kept-taken, small, unended-fits}
 use Rattle.samoa_core.proofs.Keeps.{kept-room}
+use Rattle.samoa_core.proofs.Tabled.{ChangesTables, changes-with_room}
 use Rattle.samoa_core.proofs.kernel.Core.take.Goals as goal
 
 pub invariant_of-self-in_err-room_for_one : goal.invariant_of-self-in_err-room_for_one
 invariant_of-self-in_err-room_for_one g c =
     rw (c.room_for_one.ensures.exts, c.room_for_one.ensures.running, c.room_for_one.ensures.clears)
-    (kept-room (fields_of c.self.inside) _ c.self.invariant c.room_for_one.ensures.clears_kept)
+    (kept-room (fields_of c.self.inside) _ _ c.self.invariant c.room_for_one.ensures.clears_kept)
+
+pub invariant_of-self-in_err-room_for_change : goal.invariant_of-self-in_err-room_for_change
+invariant_of-self-in_err-room_for_change g c =
+    rw (c.room_for_one.ensures.exts, c.room_for_one.ensures.running, c.room_for_one.ensures.clears, c.room_for_change.ensures.tables)
+    (kept-room (fields_of c.self.inside) _ _ c.self.invariant c.room_for_one.ensures.clears_kept)
 
 pub turns_of-turns-requires-clause-small : goal.turns_of-turns-requires-clause-small
 turns_of-turns-requires-clause-small g c p below =
@@ -28,13 +34,22 @@ overflow_add-self-2 g c =
 
 pub invariant_of-self-in_err-steps : goal.invariant_of-self-in_err-steps
 invariant_of-self-in_err-steps g c =
-    rw (c.room_for_one.ensures.exts, c.room_for_one.ensures.running, c.room_for_one.ensures.clears)
-    (kept-room (fields_of c.self.inside) _ c.self.invariant c.room_for_one.ensures.clears_kept)
+    rw (c.room_for_one.ensures.exts, c.room_for_one.ensures.running, c.room_for_one.ensures.clears, c.room_for_change.ensures.tables)
+    (kept-room (fields_of c.self.inside) _ _ c.self.invariant c.room_for_one.ensures.clears_kept)
 
 pub invariant_of-self-in_err-promise : goal.invariant_of-self-in_err-promise
 invariant_of-self-in_err-promise g c =
-    rw (c.room_for_one.ensures.exts, c.room_for_one.ensures.running, c.room_for_one.ensures.clears, c.in_err-promise.ensures.err)
-    (kept-room (fields_of c.self.inside) _ c.self.invariant c.room_for_one.ensures.clears_kept)
+    rw (c.room_for_one.ensures.exts, c.room_for_one.ensures.running, c.room_for_one.ensures.clears, c.room_for_change.ensures.tables, c.in_err-promise.ensures.err)
+    (kept-room (fields_of c.self.inside) _ _ c.self.invariant c.room_for_one.ensures.clears_kept)
+
+pub begun-calls-requires-clause-tables : goal.begun-calls-requires-clause-tables
+begun-calls-requires-clause-tables g c =
+    let fs : Fields = fields_of c.self.inside in
+    let admits : Admits _ c.args.ext.now = subst (λ (x : Trace). Admits x c.args.ext.now) (sym c.self.view_is) (record { known = c.requires.known; few = c.requires.few; fits = c.requires.fits }) in
+    let changes : ChangesTables fs.script fs.tables c.change_tables.new.tables c.args.ext.now.node c.args.ext.now.cause =
+    changes-with_room fs.script fs.tables c.room_for_change.new.tables c.change_tables.new.tables c.args.ext.now.node c.args.ext.now.cause c.self.invariant.in_range c.self.invariant.tables
+    admits.known.node admits.known.cause c.room_for_change.ensures.tables c.change_tables.ensures in
+    changes.are
 
 pub invariant_of-self-2 : goal.invariant_of-self-2
 invariant_of-self-2 g c =
@@ -48,6 +63,9 @@ invariant_of-self-2 g c =
     let number : c.len-comp.result ≡ length fs.exts + 1 = omega (arith, c.len-comp.ensures, ok, longer) in
     let as_many : length c.room_for_one.new.clears.items ≡ length fs.clears = ap length was.clears in
     let clears_room = c.in_ok-room_for_one.ensures.clears_room in
+    let changes : ChangesTables fs.script fs.tables c.change_tables.new.tables ext.node ext.cause =
+    changes-with_room fs.script fs.tables c.room_for_change.new.tables c.change_tables.new.tables ext.node ext.cause c.self.invariant.in_range c.self.invariant.tables
+    admits.known.node admits.known.cause c.room_for_change.ensures.tables c.change_tables.ensures in
     rw (
       c.note.ensures,
       c.in_ok-promise.ensures.ok,
@@ -58,6 +76,7 @@ invariant_of-self-2 g c =
       was.clears,
       c.turns_of-turns.ensures.lv,
     )
-    (kept-taken fs ext c.len-comp.result (fs.held + c.cells_of.result) c.in_ok-steps.steps (vec_capacity c.room_for_one.new.clears) c.decl.result c.decl-2.result c.decl_in.result.now
-    c.turns_of-turns.new.versions.gv _ c.self.invariant admits refl c.current.ensures refl c.in_ok-calls.ensures.calls c.in_ok-calls.ensures.none_waits c.decl.ensures c.decl-2.ensures c.decl_in.ensures
+    (kept-taken fs ext c.len-comp.result (fs.held + c.cells_of.result) c.in_ok-steps.steps (vec_capacity c.room_for_one.new.clears) c.decl_number-number.result c.decl_number-number.result c.decl_in.result.now
+    c.turns_of-turns.new.versions.gv c.change_tables.new.tables _ c.self.invariant admits changes refl c.current.ensures refl c.begun-calls.ensures.calls c.begun-calls.ensures.none_waits
+    c.decl_number-number.ensures.number c.decl_number-number.ensures.number c.decl_in.ensures
     c.in_ok-steps.ensures c.turns_of-turns.ensures.turns c.turns_of-turns.ensures.gv number (ap (λ (n : ℕ). fs.held + n) c.cells_of.ensures.cells) (omega (arith, clears_room, as_many)))

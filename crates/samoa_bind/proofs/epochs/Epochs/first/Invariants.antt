@@ -1,5 +1,0 @@
-use Rattle.std.proofs.Common.{◌≡◌, map, take}
-use Rattle.samoa_bind.proofs.epochs.Epochs.first.Given as goal
-
-abbrev pub invariant-loop-event : goal.invariant-loop-event
-invariant-loop-event l = l.first.items ≡ map (λ e. e.handlers) (take l.event-index l.events)
