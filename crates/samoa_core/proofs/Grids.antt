@@ -2,6 +2,7 @@
 use Rattle.std.proofs.Common.{◌≡◌, ◌≢◌, ◌⊎◌, inl, inr, ℕ, zero, suc, ◌+◌, ◌*◌, ◌<◌, refl, sym, ap, subst, ◌∙◌, List, [], ◌∷◌, ◌++◌, length, length-set, get_or, set, Some, length-append, replicate, arith}
 use Rattle.std.specs.Prelude.{slice_get}
 use Rattle.std.proofs.lemmas.Nat.{mul-add-lt, same_from_place}
+use Rattle.std.proofs.lemmas.Bool.{cases_eq}
 use Rattle.std.proofs.lemmas.List.{length-replicate}
 use Rattle.samoa_invariant.specs.Slots.{At, put_at}
 use Rattle.samoa_invariant.proofs.preservation.Slots.{put_at-else, put_at-here, slot_or_not}
@@ -77,7 +78,7 @@ grid-row {A = A} rows columns items row f grid as_long each =
         let before : i < rows = omega (arith, ri, ne) in
         let size : length items ≡ rows * columns = grid.size in
         let within : i * columns + j < rows * columns = grid-within rows columns i j before cj in
-        slice_get_left {A = A} items row (i * columns + j) (omega (arith, within, size)) ∙ grid.value i j before cj
+        slice_get_left items row (i * columns + j) (omega (arith, within, size)) ∙ grid.value i j before cj
 
 slice_get-replicate : {A : Type 0} (n : ℕ) (x : A) (k : ℕ) → k < n → slice_get (replicate n x) k ≡ Some x
 slice_get-replicate zero x k lt = absurd (omega (arith, lt))
