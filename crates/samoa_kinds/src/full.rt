@@ -22,15 +22,23 @@ const KINDS: [Kind; 9] = [
     Kind::Views,
 ];
 
-/// As many microprotocols of each kind as any script can take, each still to be set up, or want of memory.
+/// A stock of as many microprotocols of each kind as any script can take, or want of memory.
 pub fn full_stock(alloc: Global) -> Result<Stock<AnyKind>, NoMemory>
     ensures { IfOk result (λ stock. HasEnough stock) }
+{
+    Ok(Stock::new(full_boxes(alloc)?))
+}
+
+/// As many microprotocols of each kind as any script can take, each still to be set up, or want of memory.
+pub fn full_boxes(alloc: Global) -> Result<Vec<AnyKind>, NoMemory>
+    ensures fresh { IfOk result (λ boxes. All (λ b. (⟦<AnyKind as Micro>⟧.seen b).fresh ≡ true) boxes.items) }
+    ensures enough { IfOk result (λ boxes. HasEnough (map (λ b. (⟦<AnyKind as Micro>⟧.seen b).kind) boxes.items)) }
 {
     let mut boxes = Vec::new(alloc);
     for _round in 0..MOST {
         add_each(alloc, &mut boxes)?;
     }
-    Ok(Stock::new(boxes))
+    Ok(boxes)
 }
 
 /// Adds one of each kind.

@@ -5,4 +5,4 @@ mod any;
 mod full;
 
 pub use any::AnyKind;
-pub use full::full_stock;
+pub use full::{full_boxes, full_stock};
