@@ -1,6 +1,6 @@
 -- Values of `serde_json`, as lists of trees.
 use Rattle.std.proofs.Common.{◌≡◌, List, [], ◌∷◌, map, refl, sym, ap, ap₂, ◌∙◌, ℕ, Bor, string_bytes, String, Global}
-use Rattle.std.specs.Prelude.{Bool, ◌||◌, ◌&&◌, bytes_eq}
+use Rattle.std.specs.Prelude.{Bool, ◌&&◌, bytes_eq}
 use Rattle.std.specs.List.{list_any, list_all}
 use Rattle.std.specs.Map.{keys_of as entry_keys}
 use Rattle.serde_json.specs.View.{view, items_view, members_view}

@@ -1,6 +1,6 @@
 -- What a valid script names by numbers, in the draft that has its names again: each name is known there, has its form,
 -- and has that number.
-use Rattle.std.proofs.Common.{◌≡◌, ℕ, zero, suc, ◌+◌, ◌<◌, true, false, List, [], ◌∷◌, ◌++◌, length, map, get_or, take, drop, Some, None, refl, sym, ap, ap₂, ◌∙◌, cond, arith, subst}
+use Rattle.std.proofs.Common.{◌≡◌, ℕ, suc, ◌+◌, ◌<◌, true, false, List, [], ◌∷◌, ◌++◌, length, map, get_or, take, drop, Some, None, refl, sym, ap, ap₂, ◌∙◌, cond, arith, subst}
 use Rattle.std.specs.Prelude.{◌&&◌, not, nat_le, unwrap_or, option_map, option_and_then, is_some, codes, bytes_eq}
 use Rattle.std.specs.List.{All, list_all, position, position_or_len}
 use Rattle.std.proofs.lemmas.Bool.{and_parts, and_from, lt-ltb}
