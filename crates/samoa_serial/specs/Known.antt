@@ -1,5 +1,5 @@
 -- Outcomes and entries that name what is of the script, and those by which nothing is sent or asked for.
-use Rattle.std.specs.Prelude.{◌≡◌, ◌<◌, List, [], length, ⊤}
+use Rattle.std.specs.Prelude.{◌≡◌, ◌<◌, List, [], ⊤}
 use Rattle.samoa_model.specs.declared.handler.Dest.{Dest}
 use Rattle.samoa_model.specs.declared.handler.Outcome.{Outcome}
 use Rattle.samoa_model.specs.declared.record.Entry.{Entry}
