@@ -1,5 +1,5 @@
 -- What a script admits, tick by tick, and what is written of it.
-use Rattle.std.proofs.Common.{◌≡◌, ℕ, zero, suc, Bool, ◌+◌, ◌-◌, ◌<◌, ◌≤◌, true, false, min, List, [], ◌∷◌, ◌++◌, length, take, drop, refl, sym, ap, ◌∙◌, subst, arith, length-append, nat_lt}
+use Rattle.std.proofs.Common.{◌≡◌, ℕ, zero, suc, Bool, ◌+◌, ◌-◌, ◌<◌, ◌≤◌, true, false, min, filter, List, [], ◌∷◌, ◌++◌, length, take, drop, refl, sym, ap, ◌∙◌, subst, arith, length-append, nat_lt}
 use Rattle.std.specs.List.{All}
 use Rattle.std.specs.declared.option.Option.{Option}
 use Rattle.std.specs.Io.KnownBytes.{Appends}
@@ -10,10 +10,15 @@ use Rattle.std.proofs.lemmas.List.Elements.{All-cons, All-nil}
 use Rattle.samoa_model.specs.declared.record.Ext.{Ext}
 use Rattle.samoa_model.specs.declared.script.Script.{Script}
 use Rattle.samoa_model.specs.Range.{IsInRange, IsExtOf}
+use Rattle.samoa_serial.specs.Batch.{is_up}
+use Rattle.samoa_serial.specs.History.{batch}
 use Rattle.samoa_serial.specs.Lists.{Each}
 use Rattle.samoa_serial.specs.Ticks.{IsBatch, admitted, admitted_by, is_limited, is_limited_by, most_admitted}
 use Rattle.samoa_serial.proofs.LimitLaws.{admitted_by-begins, admitted_by-few, admitted_by-known, admitted_by-none, admitted_to-begins, admitted_to-is, is_limited_to-is, passed_admits, passed_limits, tick_admits, tick_passes, tick_ticks}
 use Rattle.samoa_ends.specs.Pieces.{AppendsPrefix}
+use Rattle.samoa_net.specs.Gathered.{Gathered}
+use Rattle.samoa_run.specs.Gathering.{HasGathered}
+use Rattle.samoa_run.proofs.Gathering.{batch_is}
 use Rattle.samoa_run.specs.Running.{later_text}
 use Rattle.samoa_run.proofs.LaterText.{later_text-append, later_text-none}
 use Rattle.samoa_run.proofs.Parts.{part_after, part_more}
@@ -57,6 +62,33 @@ pub passes_if : (script : Script) (past : List Ext) (before tick room : ℕ) (it
 passes_if script past before tick room items is next left free batch =
     ap (λ (k : ℕ). nat_lt k (length items)) (left ∙ ap (λ (xs : List Ext). 100000 - length xs) is)
     ∙ (sym (tick_passes most_admitted script before items free batch) ∙ ap (λ (k : ℕ). is_limited_by most_admitted script k) (sym next))
+
+-- the same, of what was gathered
+pub tick_part : (script : Script) (past : List Ext) (net : Gathered) (tick count admitted len : ℕ) (items shown : List Ext)
+    → past ≡ admitted_by most_admitted script net.tick → HasGathered script past net → tick ≡ net.tick + 1 → is_limited_by most_admitted script net.tick ≡ false
+    → items ≡ net.asked ++ filter (is_up script tick) (batch script tick) ++ net.sent → shown ≡ items → admitted ≡ length past → len ≡ length items
+    → count ≡ min (100000 - admitted) len → IsPart script past tick (take count shown)
+tick_part script past net tick count admitted len items shown is has next free made same as_many long some =
+    let B : ℕ → Type 0 = λ t. items ≡ net.asked ++ filter (is_up script t) (batch script t) ++ net.sent in
+    let room : 100000 - admitted ≡ 100000 - length past = ap (λ (n : ℕ). 100000 - n) as_many in
+    subst (λ (xs : List Ext). IsPart script past tick (take count xs)) (sym same)
+    (part_is script past net.tick tick (100000 - admitted) count items is next room (some ∙ ap (λ (n : ℕ). min (100000 - admitted) n) long) free
+    (batch_is script past net items has is (subst B next made)))
+
+pub tick_passes_if : (script : Script) (past : List Ext) (net : Gathered) (tick admitted len : ℕ) (items : List Ext)
+    → past ≡ admitted_by most_admitted script net.tick → HasGathered script past net → tick ≡ net.tick + 1 → is_limited_by most_admitted script net.tick ≡ false
+    → items ≡ net.asked ++ filter (is_up script tick) (batch script tick) ++ net.sent → admitted ≡ length past → len ≡ length items
+    → nat_lt (100000 - admitted) len ≡ is_limited_by most_admitted script tick
+tick_passes_if script past net tick admitted len items is has next free made as_many long =
+    let B : ℕ → Type 0 = λ t. items ≡ net.asked ++ filter (is_up script t) (batch script t) ++ net.sent in
+    let room : 100000 - admitted ≡ 100000 - length past = ap (λ (n : ℕ). 100000 - n) as_many in
+    ap (λ (n : ℕ). nat_lt (100000 - admitted) n) long
+    ∙ passes_if script past net.tick tick (100000 - admitted) items is next room free (batch_is script past net items has is (subst B next made))
+
+pub past_few : (script : Script) (past : List Ext) (tick : ℕ) → past ≡ admitted_by most_admitted script tick → length past ≤ 100000
+past_few script past tick is =
+    let whole : length past ≡ length (admitted_by most_admitted script tick) = ap (λ (xs : List Ext). length xs) is in
+    omega (arith, admitted_by-few most_admitted script tick, whole)
 
 pub part_few : (script : Script) (past : List Ext) (tick : ℕ) (part : List Ext) → IsPart script past tick part → length past + length part ≤ 100000
 part_few script past tick part is =
