@@ -11,7 +11,7 @@ use Rattle.samoa_run.specs.declared.status.Status.TheVariants.{Done, Refused, So
 use Rattle.samoa_run.specs.declared.words.Order.{Order}
 use Rattle.samoa_run.specs.Statuses.{number}
 use Rattle.samoa_run.specs.Due.{IsAnswerTo, IsTreated, can_do, done_status, due_status, fault_line, status_if, turned_away_line}
-use Rattle.samoa_run.specs.Serving.{Answers, AnswersOne, Ends, IsDueOrFailed, IsRefused, faulty, turned_away, NoFault, Obeys}
+use Rattle.samoa_run.specs.Serving.{AnswersOne, Ends, IsDueOrFailed, IsRefused, faulty, turned_away, NoFault, Obeys}
 use Rattle.samoa_run.proofs.Served.{done_ends, number-same, the_one}
 
 -- what was read, and what was answered for it

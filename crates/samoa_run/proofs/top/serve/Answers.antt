@@ -1,4 +1,4 @@
-use Rattle.std.proofs.Common.{◌≡◌, ℕ, true, Some, subst, sym}
+use Rattle.std.proofs.Common.{◌≡◌, ℕ, true, subst, sym}
 use Rattle.samoa_run.specs.declared.words.Order.{Order}
 use Rattle.samoa_run.specs.declared.words.Order.TheVariants.{Run}
 use Rattle.samoa_serial.specs.LimitedReport.{report_in_full}

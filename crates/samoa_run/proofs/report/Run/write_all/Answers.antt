@@ -1,4 +1,4 @@
-use Rattle.std.proofs.Common.{◌≡◌, ◌∙◌, List, ℕ, false, true, subst, sym}
+use Rattle.std.proofs.Common.{◌≡◌, ◌∙◌, List, ℕ, false, true, sym}
 use Rattle.std.specs.Io.KnownBytes.{Appends}
 use Rattle.samoa_ends.specs.Pieces.{AppendsPrefix}
 use Rattle.samoa_serial.specs.Ticks.{is_limited}
