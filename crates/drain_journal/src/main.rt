@@ -24,34 +24,37 @@ fn main(rt: HostRuntime) -> ExitCode {
     ExitCode::from(run(alloc, &mut source, &mut sink))
 }
 
-/// Writes the report and the journal, and answers the status: 3 for what is no script or can't run yet.
+/// Writes the report and the journal, and answers the status: 3 for what is no script or can't run yet, and 8 where the
+/// limit of computations ended the run.
 fn run<S: Source, K: Sink>(alloc: Global, source: &mut S, sink: &mut K) -> u8 {
     match write_run(alloc, source, sink) {
-        Ok(true) => 0,
-        Ok(false) => 3,
+        Ok(Some(false)) => 0,
+        Ok(Some(true)) => 8,
+        Ok(None) => 3,
         Err(Stop::Failed) => 5,
         Err(Stop::Memory) => 6,
     }
 }
 
-/// Whether the report and the journal were written: not for what is no script or can't run yet.
+/// Writes the report and the journal, and answers whether the limit of computations ended the run. None for what is no
+/// script or can't run yet.
 fn write_run<S: Source, K: Sink>(
     alloc: Global,
     source: &mut S,
     sink: &mut K,
-) -> Result<bool, Stop> {
+) -> Result<Option<bool>, Stop> {
     let bytes = read_input(alloc, source)?;
     let Ok(script) = read_script(alloc, &bytes) else {
-        return Ok(false);
+        return Ok(None);
     };
     if !built(&script) {
-        return Ok(false);
+        return Ok(None);
     }
     let stock = Stock::new(boxes(alloc)?);
-    let core = run_script(alloc, &script, stock, CELLS, false, false, sink)?;
-    let text = journal_text(alloc, core.journal())?;
+    let finished = run_script(alloc, &script, stock, CELLS, false, false, sink)?;
+    let text = journal_text(alloc, finished.core.journal())?;
     write_all(&text, sink)?;
-    Ok(true)
+    Ok(Some(finished.limited))
 }
 
 /// As many scripted microprotocols as a script can take.

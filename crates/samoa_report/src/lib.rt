@@ -3,6 +3,7 @@
 
 ghost use Rattle.std.specs.Prelude.{◌≡◌, ◌++◌, OnOk, OnErr};
 ghost use Rattle.std.specs.Io.{StartsWith};
+ghost use Rattle.samoa_serial.specs.LimitedReport.{limit_text};
 ghost use Rattle.samoa_serial.specs.Lines.{ext_text, end_text, state_text, total_text};
 
 mod entries;
@@ -76,6 +77,18 @@ pub fn total_line(
     whole_or_cut(pushed, start, out)
 }
 
+/// Appends the last line of a report whose computations the limit ended: `L`, and the limit.
+///
+/// Want of memory leaves `out` as it was.
+pub fn limit_line(most: u32, out: &mut Vec<u8>) -> Result<(), NoMemory>
+    ensures ok { OnOk result (out.new.items ≡ out.old.items ++ limit_text most) }
+    ensures err { OnErr result (out.new.items ≡ out.old.items) }
+{
+    let start = out.len();
+    let pushed = push_limit(most, out);
+    whole_or_cut(pushed, start, out)
+}
+
 #[tactic(auto, unfolding(samoa_serial::specs::Lines::ext_text))]
 fn push_ext(script: &Script, comp: u32, ext: &Ext, out: &mut Vec<u8>) -> Result<(), NoMemory>
     ensures ok { OnOk result (out.new.items ≡ out.old.items ++ ext_text script.now comp ext.now) }
@@ -144,5 +157,15 @@ fn push_total(comps: u32, deliveries: u64, refusals: u64, out: &mut Vec<u8>) -> 
     push_number(deliveries, out)?;
     push_byte(b' ', out)?;
     push_number(refusals, out)?;
+    push_byte(b'\n', out)
+}
+
+#[tactic(auto, unfolding(samoa_serial::specs::LimitedReport::limit_text))]
+fn push_limit(most: u32, out: &mut Vec<u8>) -> Result<(), NoMemory>
+    ensures ok { OnOk result (out.new.items ≡ out.old.items ++ limit_text most) }
+    ensures err { OnErr result (StartsWith out.new.items out.old.items) }
+{
+    push_text(b"L ", out)?;
+    push_number(u64::from(most), out)?;
     push_byte(b'\n', out)
 }

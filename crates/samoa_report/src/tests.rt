@@ -1,5 +1,5 @@
 //! Each line once. Whole reports stand in examples/.
-use crate::{end_line, entry_line, ext_line, state_line, total_line};
+use crate::{end_line, entry_line, ext_line, limit_line, state_line, total_line};
 use samoa_model::{
     Cause, ChangeDef, ChangeId, CodeDef, Dest, Ending, Entry, EventDef, EventId, Ext, HandlerId,
     Kind, Listed, MicroDef, MicroId, Name, NoMemory, NodeId, Refusal, Script, Words,
@@ -147,6 +147,7 @@ fn prints_each_line(rt: HostRuntime) -> Result<(), Fail> {
     end_line(8, &Ending::Cut, &mut out)?;
     state_line(&script, NodeId(1), MicroId(0), &Words::cut(&[5]), &mut out)?;
     total_line(100000, 18446744073709551615, 0, &mut out)?;
+    limit_line(4294967295, &mut out)?;
     let want: &[u8] = b"B 4294967295 12 1 to_b 3 4\n\
 C 7 1 0 ab.f 1 18446744073709551615\n\
 C 7 2 1 l.send\n\
@@ -161,7 +162,8 @@ X 8 2 - OverBudget\n\
 D 8 ab 1 18446744073709551615\n\
 Z 8 cut\n\
 S 1 ab 5\n\
-N 100000 18446744073709551615 0\n";
+N 100000 18446744073709551615 0\n\
+L 4294967295\n";
     assert_eq!(rt; out.as_slice(), want);
     Ok(())
 }

@@ -1,5 +1,5 @@
 -- The last part of the report.
-use Rattle.std.proofs.Common.{◌≡◌, ℕ, Bool, ◌++◌, List, [], length, sym, ap, ◌∙◌, subst, append_assoc}
+use Rattle.std.proofs.Common.{◌≡◌, ℕ, Bool, true, false, if◌then◌else◌, ◌++◌, List, [], length, sym, ap, ◌∙◌, subst}
 use Rattle.std.specs.declared.option.Option.{Option}
 use Rattle.std.specs.Io.KnownBytes.{Appends}
 use Rattle.std.proofs.KnownBytes.{Appends-trans}
@@ -7,10 +7,10 @@ use Rattle.samoa_model.specs.declared.record.Ext.{Ext}
 use Rattle.samoa_model.specs.declared.script.Script.{Script}
 use Rattle.samoa_serial.specs.World.{States}
 use Rattle.samoa_serial.specs.SerialRun.{serial}
-use Rattle.samoa_serial.specs.History.{history}
+use Rattle.samoa_serial.specs.LimitedReport.{limit_text, report_in_full, report_to}
 use Rattle.samoa_serial.specs.Lines.{total_text}
-use Rattle.samoa_serial.specs.Report.{comps_text, states_text, is_delivery, is_refusal, entries_of_sort, report}
-use Rattle.samoa_serial.proofs.ReportLaws.{report_of-parts}
+use Rattle.samoa_serial.specs.Report.{states_text, is_delivery, is_refusal, entries_of_sort}
+use Rattle.samoa_serial.specs.Ticks.{admitted, is_limited, most_admitted}
 use Rattle.samoa_invariant.specs.Runs.{Trace}
 use Rattle.samoa_ends.specs.Pieces.{AppendsPrefix}
 use Rattle.samoa_run.specs.declared.totals.Totals.{Totals}
@@ -35,33 +35,45 @@ closing_text-built script past core totals none states all has e f h =
     ∙ ap (λ (t : List ℕ). t ++ total_text (length past) (entries_of_sort is_delivery (serial script past).comps) (entries_of_sort is_refusal (serial script past).comps))
     (f ∙ ap (λ (t : List ℕ). t ++ states_text script (states_of core) script.nodes) e ∙ ap (λ (f : ℕ → States). states_text script f script.nodes) left)
 
--- the report is what the computations write, and then this
-pub report-is : (script : Script) (calls : Bool) → report script calls ≡ later_text script calls [] (history script) ++ closing_text script (history script)
-unfolding report closing_text
+-- the report is what the computations write, and then its end
+report-is : (script : Script) (calls : Bool)
+    → report_in_full script calls
+    ≡ later_text script calls [] (admitted script) ++ (if is_limited script then limit_text most_admitted else closing_text script (admitted script))
+unfolding report_to closing_text
 report-is script calls =
-    let exts = history script in
-    let served = serial script exts in
-    report_of-parts script calls exts
-    ∙ append_assoc (comps_text script calls 1 exts served.comps) (states_text script served.states script.nodes)
-    (total_text (length exts) (entries_of_sort is_delivery served.comps) (entries_of_sort is_refusal served.comps))
-    ∙ ap (λ (t : List ℕ). t ++ closing_text script exts) (comps_text-all script calls exts)
+    let exts : List Ext = admitted script in
+    ap (λ (t : List ℕ). t ++ (if is_limited script then limit_text most_admitted else closing_text script exts)) (comps_text-all script calls exts)
+
+-- where the limit ended it, that is the line of the limit
+pub report-limited : (script : Script) (calls : Bool) → true ≡ is_limited script
+    → report_in_full script calls ≡ later_text script calls [] (admitted script) ++ limit_text most_admitted
+report-limited script calls e =
+    report-is script calls
+    ∙ ap (λ (b : Bool). later_text script calls [] (admitted script) ++ (if b then limit_text most_admitted else closing_text script (admitted script))) (sym e)
+
+-- else the states that stand and the totals
+pub report-whole : (script : Script) (calls : Bool) → false ≡ is_limited script
+    → report_in_full script calls ≡ later_text script calls [] (admitted script) ++ closing_text script (admitted script)
+report-whole script calls e =
+    report-is script calls
+    ∙ ap (λ (b : Bool). later_text script calls [] (admitted script) ++ (if b then limit_text most_admitted else closing_text script (admitted script))) (sym e)
+
+-- the last part, where it is known under another name
+pub closing_of : (script : Script) (past exts : List Ext) (P : List ℕ → Type 0) → past ≡ exts → P (closing_text script past) → P (closing_text script exts)
+closing_of script past exts P e p = subst (λ (xs : List Ext). P (closing_text script xs)) e p
 
 -- all was written
-pub report_written : (script : Script) (calls : Bool) (past : List Ext) (old mid new : Option (List ℕ)) → past ≡ history script
-    → Appends old mid (later_text script calls [] (history script)) → Appends mid new (closing_text script past) → Appends old new (report script calls)
-report_written script calls past old mid new e first last =
-    let P : List ℕ → Type 0 = Appends old new in
-    let C : List Ext → Type 0 = λ exts. Appends mid new (closing_text script exts) in
-    subst P (sym (report-is script calls)) (Appends-trans old mid new _ _ first (subst C e last))
+pub report_written : (text first last : List ℕ) (old mid new : Option (List ℕ)) → text ≡ first ++ last → Appends old mid first → Appends mid new last → Appends old new text
+report_written text first last old mid new e wrote rest = let W : List ℕ → Type 0 = Appends old new in subst W (sym e) (Appends-trans old mid new _ _ wrote rest)
 
 -- the computations were written, and a part of the rest
-pub report_in_part : (script : Script) (calls : Bool) (past : List Ext) (old mid new : Option (List ℕ)) → past ≡ history script
-    → Appends old mid (later_text script calls [] (history script)) → AppendsPrefix mid new (closing_text script past) → AppendsPrefix old new (report script calls)
-report_in_part script calls past old mid new e first last =
-    let P : List ℕ → Type 0 = AppendsPrefix old new in
-    let C : List Ext → Type 0 = λ exts. AppendsPrefix mid new (closing_text script exts) in
-    subst P (sym (report-is script calls)) (part_after old mid new _ _ first (subst C e last))
+pub report_in_part : (text first last : List ℕ) (old mid new : Option (List ℕ)) → text ≡ first ++ last → Appends old mid first → AppendsPrefix mid new last
+    → AppendsPrefix old new text
+report_in_part text first last old mid new e wrote rest =
+    let P : List ℕ → Type 0 = AppendsPrefix old new in subst P (sym e) (part_after old mid new _ _ wrote rest)
 
 -- a part of the computations was written
-pub report_begun : (script : Script) (calls : Bool) (old new : Option (List ℕ)) → AppendsPrefix old new (later_text script calls [] (history script)) → AppendsPrefix old new (report script calls)
-report_begun script calls old new first = let P : List ℕ → Type 0 = AppendsPrefix old new in subst P (sym (report-is script calls)) (part_more old new _ _ first)
+pub report_begun : (script : Script) (calls : Bool) (old new : Option (List ℕ)) → AppendsPrefix old new (later_text script calls [] (admitted script))
+    → AppendsPrefix old new (report_in_full script calls)
+report_begun script calls old new first =
+    let P : List ℕ → Type 0 = AppendsPrefix old new in subst P (sym (report-is script calls)) (part_more old new _ _ first)

@@ -1,123 +1,167 @@
 -- What a script admits, tick by tick, and what is written of it.
-use Rattle.std.proofs.Common.{◌≡◌, ℕ, Bool, zero, suc, ◌+◌, ◌-◌, ◌<◌, ◌≤◌, ◌==◌, true, false, cond, filter, List, [], ◌∷◌, ◌++◌, length, map, refl, sym, ap, ◌∙◌, subst, arith, append_assoc, append-nil, add-zero, length-append}
-use Rattle.std.proofs.lemmas.List.Sums.{length-filter, count_by-le-length}
+use Rattle.std.proofs.Common.{◌≡◌, ℕ, Bool, ◌+◌, ◌-◌, ◌<◌, ◌≤◌, true, false, min, filter, List, [], ◌∷◌, ◌++◌, length, take, drop, sym, ap, ◌∙◌, subst, arith, length-append, nat_lt}
 use Rattle.std.specs.List.{All}
 use Rattle.std.specs.declared.option.Option.{Option}
 use Rattle.std.specs.Io.KnownBytes.{Appends}
-use Rattle.std.proofs.KnownBytes.{Appends-trans}
-use Rattle.std.proofs.lemmas.List.Elements.{All-map, All-weaker}
+use Rattle.std.proofs.Math.Seq.{drop-append_seam}
+use Rattle.std.proofs.KnownBytes.{Appends-nil, Appends-trans}
+use Rattle.std.proofs.lemmas.List.{take_min}
+use Rattle.std.proofs.lemmas.List.Elements.{All-cons, All-nil}
 use Rattle.samoa_model.specs.declared.record.Ext.{Ext}
-use Rattle.samoa_model.specs.declared.script.DoDef.{DoDef}
 use Rattle.samoa_model.specs.declared.script.Script.{Script}
-use Rattle.samoa_model.specs.Range.{IsInRange, IsDoInRange, IsExtOf}
-use Rattle.samoa_serial.specs.History.{ext_of, batch, history_to, history}
-use Rattle.samoa_serial.proofs.HistoryLaws.{in_first, history_to-one_more, history-is, length-history_to, batch-in_range}
-use Rattle.samoa_invariant.specs.Runs.{Trace}
+use Rattle.samoa_model.specs.Range.{IsInRange, IsExtOf}
+use Rattle.samoa_serial.specs.Batch.{is_up}
+use Rattle.samoa_serial.specs.History.{batch}
+use Rattle.samoa_serial.specs.Lists.{Each}
+use Rattle.samoa_serial.specs.Ticks.{IsBatch, admitted, admitted_by, is_limited, is_limited_by, most_admitted}
+use Rattle.samoa_serial.proofs.LimitLaws.{admitted_by-begins, admitted_by-few, admitted_by-known, admitted_by-none, admitted_to-begins, admitted_to-is, is_limited_to-is, passed_admits, passed_limits, tick_admits, tick_passes, tick_ticks}
 use Rattle.samoa_ends.specs.Pieces.{AppendsPrefix}
-use Rattle.samoa_run.specs.declared.totals.Totals.{Totals}
-use Rattle.samoa_run.specs.Running.{HasRun, later_text}
-use Rattle.samoa_run.specs.Schedule.{of_tick}
-use Rattle.samoa_run.proofs.LaterText.{later_text-append}
+use Rattle.samoa_net.specs.Gathered.{Gathered}
+use Rattle.samoa_run.specs.Gathering.{HasGathered}
+use Rattle.samoa_run.proofs.Gathering.{batch_is}
+use Rattle.samoa_run.specs.Running.{later_text}
+use Rattle.samoa_run.proofs.LaterText.{later_text-append, later_text-none}
 use Rattle.samoa_run.proofs.Parts.{part_after, part_more}
 
--- the script's own items, as admissions
-abbrev pub own_exts : Script → List Ext
-own_exts script = map ext_of script.does
+-- what holds of each by recursion holds of all
+all_of : {A : Type 0} (P : A → Type 0) (xs : List A) → Each P xs → All P xs
+all_of P [] each = All-nil P
+all_of P (x ∷ xs) each = All-cons P x xs each.0 (all_of P xs each.1)
 
--- none comes before the first tick
-pub items_late : (script : Script) → IsInRange script → All (λ (ext : Ext). 1 ≤ ext.tick) (own_exts script)
-items_late script range =
-    All-map (λ (ext : Ext). 1 ≤ ext.tick) ext_of script.does
-    (All-weaker (IsDoInRange script) (λ (item : DoDef). 1 ≤ item.tick) (λ item h. h.first) script.does range.does)
+each_after : {A : Type 0} (P : A → Type 0) (xs ys : List A) → Each P (xs ++ ys) → Each P ys
+each_after P [] ys all = all
+each_after P (x ∷ xs) ys all = each_after P xs ys all.1
 
--- a test before or after they are made admissions
-one_ext : (b : Bool) (x : DoDef) (exts : List Ext) (items : List DoDef) → exts ≡ map ext_of items → cond b (ext_of x ∷ exts) exts ≡ map ext_of (cond b (x ∷ items) items)
-one_ext true x exts items e = ap (λ (l : List Ext). ext_of x ∷ l) e
-one_ext false x exts items e = e
+-- a tick admits these after those before it
+pub record IsPart (script : Script) (past : List Ext) (tick : ℕ) (part : List Ext) : Type 0 where
+  pub adds : admitted_by most_admitted script tick ≡ past ++ part
+  pub of_tick : All (λ (ext : Ext). ext.tick ≡ tick) part
 
-filter_ext : (tick : ℕ) (items : List DoDef) → of_tick tick (map ext_of items) ≡ map ext_of (filter (λ (item : DoDef). item.tick == tick) items)
-filter_ext tick [] = refl
-filter_ext tick (x ∷ xs) =
-    one_ext (x.tick == tick) x (of_tick tick (map ext_of xs)) (filter (λ (item : DoDef). item.tick == tick) xs) (filter_ext tick xs)
+-- it takes as many of its batch as there is room for
+pub part_is : (script : Script) (past : List Ext) (before tick room count : ℕ) (items : List Ext) → past ≡ admitted_by most_admitted script before → tick ≡ before + 1
+    → room ≡ 100000 - length past → count ≡ min room (length items) → is_limited_by most_admitted script before ≡ false → IsBatch most_admitted script before items
+    → IsPart script past tick (take count items)
+part_is script past before tick room count items is next left some free batch =
+    subst (λ (k : ℕ). IsPart script past k (take count items)) (sym next)
+    (subst (λ (xs : List Ext). IsPart script past (before + 1) xs) (sym first)
+    (subst (λ (xs : List Ext). IsPart script xs (before + 1) (take (100000 - length (admitted_by most_admitted script before)) items)) (sym is) (record {
+      adds = tick_admits most_admitted script before items free batch;
+      of_tick = all_of (λ (ext : Ext). ext.tick ≡ before + 1) (take (100000 - length (admitted_by most_admitted script before)) items)
+          (tick_ticks most_admitted script before items batch);
+    })))
+  where
+    first : take count items ≡ take (100000 - length (admitted_by most_admitted script before)) items
+    first =
+        ap (λ (k : ℕ). take k items) some
+        ∙ (take_min room items ∙ (ap (λ (k : ℕ). take k items) left ∙ ap (λ (xs : List Ext). take (100000 - length xs) items) is))
 
--- the first ticks admit no more than the script has items
-pub few_to : (script : Script) (n : ℕ) → length (history_to script n) ≤ length script.does
-few_to script n = omega (arith, length-history_to script n, length-filter (in_first n) script.does, count_by-le-length (in_first n) script.does)
+-- and would admit more where its batch has more
+pub passes_if : (script : Script) (past : List Ext) (before tick room : ℕ) (items : List Ext) → past ≡ admitted_by most_admitted script before → tick ≡ before + 1
+    → room ≡ 100000 - length past → is_limited_by most_admitted script before ≡ false → IsBatch most_admitted script before items
+    → nat_lt room (length items) ≡ is_limited_by most_admitted script tick
+passes_if script past before tick room items is next left free batch =
+    ap (λ (k : ℕ). nat_lt k (length items)) (left ∙ ap (λ (xs : List Ext). 100000 - length xs) is)
+    ∙ (sym (tick_passes most_admitted script before items free batch) ∙ ap (λ (k : ℕ). is_limited_by most_admitted script k) (sym next))
 
--- the items of a tick as admissions
-pub items_are_batch : (script : Script) (tick : ℕ) (items : List Ext) → items ≡ of_tick tick (own_exts script) → items ≡ batch script tick
-unfolding batch
-items_are_batch script tick items e = e ∙ filter_ext tick script.does
+-- the same, of what was gathered
+pub tick_part : (script : Script) (past : List Ext) (net : Gathered) (tick count admitted len : ℕ) (items shown : List Ext)
+    → past ≡ admitted_by most_admitted script net.tick → HasGathered script past net → tick ≡ net.tick + 1 → is_limited_by most_admitted script net.tick ≡ false
+    → items ≡ net.asked ++ filter (is_up script tick) (batch script tick) ++ net.sent → shown ≡ items → admitted ≡ length past → len ≡ length items
+    → count ≡ min (100000 - admitted) len → IsPart script past tick (take count shown)
+tick_part script past net tick count admitted len items shown is has next free made same as_many long some =
+    let B : ℕ → Type 0 = λ t. items ≡ net.asked ++ filter (is_up script t) (batch script t) ++ net.sent in
+    let room : 100000 - admitted ≡ 100000 - length past = ap (λ (n : ℕ). 100000 - n) as_many in
+    subst (λ (xs : List Ext). IsPart script past tick (take count xs)) (sym same)
+    (part_is script past net.tick tick (100000 - admitted) count items is next room (some ∙ ap (λ (n : ℕ). min (100000 - admitted) n) long) free
+    (batch_is script past net items has is (subst B next made)))
 
--- these items come after the first ticks
-abbrev pub IsNext : Script → ℕ → List Ext → List Ext → Type 0
-IsNext script before past items = (past ≡ history_to script before) × (items ≡ of_tick (before + 1) (own_exts script))
+pub tick_passes_if : (script : Script) (past : List Ext) (net : Gathered) (tick admitted len : ℕ) (items : List Ext)
+    → past ≡ admitted_by most_admitted script net.tick → HasGathered script past net → tick ≡ net.tick + 1 → is_limited_by most_admitted script net.tick ≡ false
+    → items ≡ net.asked ++ filter (is_up script tick) (batch script tick) ++ net.sent → admitted ≡ length past → len ≡ length items
+    → nat_lt (100000 - admitted) len ≡ is_limited_by most_admitted script tick
+tick_passes_if script past net tick admitted len items is has next free made as_many long =
+    let B : ℕ → Type 0 = λ t. items ≡ net.asked ++ filter (is_up script t) (batch script t) ++ net.sent in
+    let room : 100000 - admitted ≡ 100000 - length past = ap (λ (n : ℕ). 100000 - n) as_many in
+    ap (λ (n : ℕ). nat_lt (100000 - admitted) n) long
+    ∙ passes_if script past net.tick tick (100000 - admitted) items is next room free (batch_is script past net items has is (subst B next made))
 
-next_past : (script : Script) (before : ℕ) (past : List Ext) (items : List Ext) → IsNext script before past items
-    → past ++ items ≡ history_to script (before + 1)
-next_past script before past items is =
-    ap (λ (l : List Ext). l ++ items) is.0
-    ∙ ap (λ (l : List Ext). history_to script before ++ l) (items_are_batch script (before + 1) items is.1) ∙ sym (history_to-one_more script before)
+pub past_few : (script : Script) (past : List Ext) (tick : ℕ) → past ≡ admitted_by most_admitted script tick → length past ≤ 100000
+past_few script past tick is =
+    let whole : length past ≡ length (admitted_by most_admitted script tick) = ap (λ (xs : List Ext). length xs) is in
+    omega (arith, admitted_by-few most_admitted script tick, whole)
 
-next_history : (script : Script) (calls : Bool) (before : ℕ) (past : List Ext) (items : List Ext) → IsNext script before past items
-    → later_text script calls [] (history_to script (before + 1)) ≡ later_text script calls [] (history_to script before) ++ later_text script calls past items
-next_history script calls before past items is =
-    ap (later_text script calls []) (sym (next_past script before past items is)) ∙ later_text-append script calls [] past items
-    ∙ ap (λ (l : List Ext). later_text script calls [] l ++ later_text script calls past items) is.0
+pub part_few : (script : Script) (past : List Ext) (tick : ℕ) (part : List Ext) → IsPart script past tick part → length past + length part ≤ 100000
+part_few script past tick part is =
+    let whole : length (admitted_by most_admitted script tick) ≡ length (past ++ part) = ap (λ (xs : List Ext). length xs) is.adds in
+    omega (arith, admitted_by-few most_admitted script tick, whole, length-append past part)
 
-pub batch_named : (script : Script) (before : ℕ) (items : List Ext) → IsInRange script → items ≡ of_tick (before + 1) (own_exts script) → All (IsExtOf script) items
-batch_named script before items range e =
-    let P : List Ext → Type 0 = All (IsExtOf script) in
-    subst P (sym (items_are_batch script (before + 1) items e)) (batch-in_range script (before + 1) range)
+pub part_named : (script : Script) (past : List Ext) (tick : ℕ) (part : List Ext) → IsInRange script → IsPart script past tick part → All (IsExtOf script) part
+part_named script past tick part range is =
+    all_of (IsExtOf script) part (each_after (IsExtOf script) past part
+    (subst (λ (xs : List Ext). Each (IsExtOf script) xs) is.adds (admitted_by-known most_admitted script tick range)))
 
-pub batch_few : (script : Script) (before : ℕ) (past : List Ext) (items : List Ext) → IsInRange script → IsNext script before past items
-    → length past + length items ≤ 100000
-batch_few script before past items range is =
-    let as_many : length (past ++ items) ≡ length (history_to script (before + 1)) = ap (λ (l : List Ext). length l) (next_past script before past items is) in
-    omega (arith, as_many, length-append past items, few_to script (before + 1), range.few_does)
+-- what a tick admits after these
+abbrev pub added : Script → List Ext → ℕ → List Ext
+added script past tick = drop (length past) (admitted_by most_admitted script tick)
 
--- one tick more was run and written
-pub has_run-batch : (script : Script) (before : ℕ) (past : List Ext) (items : List Ext) (core : Trace) (totals : Totals) → IsNext script before past items
-    → HasRun script (past ++ items) core totals → HasRun script (history_to script (before + 1)) core totals
-has_run-batch script before past items core totals is has =
-    let H : List Ext → Type 0 = λ l. HasRun script l core totals in subst H (next_past script before past items is) has
+pub part_added : (script : Script) (past : List Ext) (tick : ℕ) (part : List Ext) → IsPart script past tick part → part ≡ added script past tick
+part_added script past tick part is = sym (ap (λ (xs : List Ext). drop (length past) xs) is.adds ∙ drop-append_seam past part)
 
-pub wrote_batch : (script : Script) (calls : Bool) (before : ℕ) (past : List Ext) (items : List Ext) (old mid new : Option (List ℕ)) → IsNext script before past items
-    → Appends old mid (later_text script calls [] (history_to script before)) → Appends mid new (later_text script calls past items)
-    → Appends old new (later_text script calls [] (history_to script (before + 1)))
-wrote_batch script calls before past items old mid new is first next =
-    let P : List ℕ → Type 0 = Appends old new in
-    subst P (sym (next_history script calls before past items is)) (Appends-trans old mid new _ _ first next)
+-- with what a tick adds, the computations so far are those of one tick more
+pub added_is : (script : Script) (before : ℕ) (past : List Ext) → past ≡ admitted_by most_admitted script before
+    → admitted_by most_admitted script (before + 1) ≡ past ++ added script past (before + 1)
+added_is script before past is =
+    let begins = admitted_by-begins most_admitted script before 1 in
+    let next : 1 + before ≡ before + 1 = omega arith in
+    let whole : admitted_by most_admitted script (before + 1) ≡ past ++ begins.rest
+    = ap (λ (k : ℕ). admitted_by most_admitted script k) (sym next) ∙ (begins.is ∙ ap (λ (xs : List Ext). xs ++ begins.rest) (sym is)) in
+    whole ∙ ap (λ (xs : List Ext). past ++ xs) (sym (ap (λ (xs : List Ext). drop (length past) xs) whole ∙ drop-append_seam past begins.rest))
 
--- the history goes on from each tick
-goes_on : (script : Script) (n k : ℕ) → (rest : List Ext) × (history_to script (n + k) ≡ history_to script n ++ rest)
-goes_on script n zero = ([], ap (history_to script) (add-zero n) ∙ sym (append-nil (history_to script n)))
-goes_on script n (suc k) =
-    let before = goes_on script n k in
-    let next : n + suc k ≡ (n + k) + 1 = omega arith in (
-      before.0 ++ batch script ((n + k) + 1),
-      ap (history_to script) next ∙ history_to-one_more script (n + k) ∙ ap (λ (l : List Ext). l ++ batch script ((n + k) + 1)) before.1
-          ∙ append_assoc (history_to script n) before.0 (batch script ((n + k) + 1)),
-    )
+text_added : (script : Script) (calls : Bool) (before : ℕ) (past : List Ext) → past ≡ admitted_by most_admitted script before
+    → later_text script calls [] (admitted_by most_admitted script (before + 1))
+    ≡ later_text script calls [] (admitted_by most_admitted script before) ++ later_text script calls past (added script past (before + 1))
+text_added script calls before past is =
+    ap (later_text script calls []) (added_is script before past is)
+    ∙ (later_text-append script calls [] past (added script past (before + 1))
+    ∙ ap (λ (xs : List Ext). later_text script calls [] xs ++ later_text script calls past (added script past (before + 1))) is)
 
--- what was written of the first ticks is a part of what is written of all
-pub part_of_history : (script : Script) (calls : Bool) (n : ℕ) (old new : Option (List ℕ)) → n ≤ script.ticks
-    → AppendsPrefix old new (later_text script calls [] (history_to script n)) → AppendsPrefix old new (later_text script calls [] (history script))
-part_of_history script calls n old new within p =
+-- nothing was written before the first tick
+pub wrote_none : (script : Script) (calls : Bool) (old : Option (List ℕ)) → Appends old old (later_text script calls [] (admitted_by most_admitted script 0))
+wrote_none script calls old =
+    let W : List ℕ → Type 0 = Appends old old in
+    subst W (sym (ap (later_text script calls []) (admitted_by-none most_admitted script) ∙ later_text-none script calls [])) (Appends-nil old)
+
+-- one tick more was written
+pub wrote_tick : (script : Script) (calls : Bool) (before : ℕ) (past : List Ext) (old mid new : Option (List ℕ)) → past ≡ admitted_by most_admitted script before
+    → Appends old mid (later_text script calls [] (admitted_by most_admitted script before)) → Appends mid new (later_text script calls past (added script past (before + 1)))
+    → Appends old new (later_text script calls [] (admitted_by most_admitted script (before + 1)))
+wrote_tick script calls before past old mid new is first next =
+    let W : List ℕ → Type 0 = Appends old new in subst W (sym (text_added script calls before past is)) (Appends-trans old mid new _ _ first next)
+
+-- a part of it was written, and so a part of all
+pub wrote_tick_in_part : (script : Script) (calls : Bool) (before : ℕ) (past : List Ext) (old mid new : Option (List ℕ)) → before < script.ticks
+    → past ≡ admitted_by most_admitted script before
+    → Appends old mid (later_text script calls [] (admitted_by most_admitted script before)) → AppendsPrefix mid new (later_text script calls past (added script past (before + 1)))
+    → AppendsPrefix old new (later_text script calls [] (admitted script))
+wrote_tick_in_part script calls before past old mid new within is first next =
     let P : List ℕ → Type 0 = AppendsPrefix old new in
-    let rest = goes_on script n (script.ticks - n) in
-    let all : script.ticks ≡ n + (script.ticks - n) = omega arith in
-    let same : later_text script calls [] (history script) ≡ later_text script calls [] (history_to script n) ++ later_text script calls (history_to script n) rest.0
-    = ap (later_text script calls []) (history-is script ∙ ap (history_to script) all ∙ rest.1) ∙ later_text-append script calls [] (history_to script n) rest.0 in
-    subst P (sym same) (part_more old new _ _ p)
+    let begins = admitted_to-begins most_admitted script (before + 1) (omega (arith, within)) in
+    let now : List Ext = admitted_by most_admitted script (before + 1) in
+    subst P (sym (ap (later_text script calls []) begins.is ∙ later_text-append script calls [] now begins.rest))
+    (part_more old new _ _ (subst P (sym (text_added script calls before past is)) (part_after old mid new _ _ first next)))
 
-pub wrote_batch_in_part : (script : Script) (calls : Bool) (before : ℕ) (past : List Ext) (items : List Ext) (old mid new : Option (List ℕ)) → before < script.ticks → IsNext script before past items
-    → Appends old mid (later_text script calls [] (history_to script before)) → AppendsPrefix mid new (later_text script calls past items)
-    → AppendsPrefix old new (later_text script calls [] (history script))
-wrote_batch_in_part script calls before past items old mid new within is first next =
-    let P : List ℕ → Type 0 = AppendsPrefix old new in
-    part_of_history script calls (before + 1) old new (omega arith) (subst P (sym (next_history script calls before past items is)) (part_after old mid new _ _ first next))
+-- after the last tick all is admitted
+pub last_admits : (script : Script) (n : ℕ) → n ≡ script.ticks → admitted_by most_admitted script n ≡ admitted script
+last_admits script n e = ap (λ (k : ℕ). admitted_by most_admitted script k) e ∙ sym (admitted_to-is most_admitted script)
 
--- after the last tick
-pub all_ticks : (script : Script) (n : ℕ) → n ≡ script.ticks → history_to script n ≡ history script
-all_ticks script n e = ap (history_to script) e ∙ sym (history-is script)
+pub last_limits : (script : Script) (n : ℕ) → n ≡ script.ticks → is_limited_by most_admitted script n ≡ false → false ≡ is_limited script
+last_limits script n e free =
+    sym free ∙ (ap (λ (k : ℕ). is_limited_by most_admitted script k) e ∙ sym (is_limited_to-is most_admitted script))
+
+-- and so it is after the tick that passes the limit
+pub limit_admits : (script : Script) (before : ℕ) → before < script.ticks → is_limited_by most_admitted script (before + 1) ≡ true
+    → admitted_by most_admitted script (before + 1) ≡ admitted script
+limit_admits script before within passed = sym (passed_admits most_admitted script (before + 1) (omega (arith, within)) passed)
+
+pub limit_limits : (script : Script) (before : ℕ) → before < script.ticks → is_limited_by most_admitted script (before + 1) ≡ true → true ≡ is_limited script
+limit_limits script before within passed = sym (passed_limits most_admitted script (before + 1) (omega (arith, within)) passed)

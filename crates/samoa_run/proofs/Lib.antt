@@ -3,6 +3,7 @@ pub mod Boxes
 pub mod Closing
 pub mod EntryBound
 pub mod EntrySteps
+pub mod Gathering
 pub mod Histories
 pub mod Kept
 pub mod LaterText
@@ -12,8 +13,6 @@ pub mod OneWord
 pub mod Opened
 pub mod Parts
 pub mod Progress
-pub mod Remaining
 pub mod RunOnce
 pub mod Runnable
 pub mod Served
-pub mod Ticks

@@ -1,6 +1,8 @@
 -- One computation more is written and counted.
-use Rattle.std.proofs.Common.{◌≡◌, ℕ, ◌+◌, ◌-◌, ◌*◌, ◌^◌, ◌<◌, ◌≤◌, Bool, List, [], ◌∷◌, ◌++◌, length, get_or, take, drop, Some, sym, ap, ◌∙◌, arith, append_assoc, append-nil, slice_get, count_by}
-use Rattle.std.proofs.lemmas.List.{drop_all, drop_more, length-take-le}
+use Rattle.std.proofs.Common.{◌≡◌, ℕ, ◌+◌, ◌-◌, ◌*◌, ◌^◌, ◌<◌, ◌≤◌, Bool, List, [], ◌∷◌, ◌++◌, length, get_or, take, drop, Some, sym, ap, ◌∙◌, arith, append_assoc, append-nil, slice_get, count_by, subst, length-drop}
+use Rattle.std.specs.List.{All}
+use Rattle.std.proofs.lemmas.List.{drop_all, drop_more, get_or-drop, length-take-le}
+use Rattle.std.proofs.lemmas.List.Elements.{All-get_or}
 use Rattle.std.proofs.lemmas.List.Sums.{count_by-le-length}
 use Rattle.std.proofs.lemmas.Option.{slice_get_within, get_or_from_slice_get}
 use Rattle.samoa_model.specs.declared.record.Entry.{Entry}
@@ -13,10 +15,13 @@ use Rattle.samoa_serial.specs.Report.{comp_text, entries_of_sort, is_delivery, i
 use Rattle.samoa_serial.proofs.SerialLaws.{comp_at}
 use Rattle.samoa_serial.proofs.ReportLaws.{entries_of_sort-append, entries_of_sort-one_more}
 use Rattle.samoa_invariant.specs.Runs.{Trace, no_ran, served_at}
+use Rattle.samoa_net.specs.Gathered.{Gathered}
 use Rattle.samoa_run.specs.declared.totals.Totals.{Totals}
+use Rattle.samoa_run.specs.Gathering.{Gathers, HasGathered}
 use Rattle.samoa_run.specs.Running.{AreTotals, Counts, later_text, next_ran, next_text}
 use Rattle.samoa_run.proofs.EntryBound.{entries_of_ran-at_most}
 use Rattle.samoa_run.proofs.EntrySteps.{take_one_more}
+use Rattle.samoa_run.proofs.Gathering.{gathered_more}
 use Rattle.samoa_run.proofs.LaterText.{later_text-first, later_text-none}
 
 -- this was admitted to a core for the script, after k others
@@ -39,6 +44,25 @@ served_is script core k ext is =
 
 first_more : (script : Script) (core : Trace) (k : ℕ) (ext : Ext) → IsAt script core k ext → take (k + 1) core.exts ≡ take k core.exts ++ ext ∷ []
 first_more script core k ext is = take_one_more core.exts k ext (sym is.there)
+
+-- what it brings the next tick is gathered with what those before it bring
+pub gathered_at : (script : Script) (core : Trace) (k : ℕ) (ext : Ext) (before after : Gathered) → IsAt script core k ext → HasGathered script (take k core.exts) before
+    → ext.tick ≡ before.tick → Gathers script ext (served_at core (k + 1)).world.entries before after → after.comp ≤ k + 1 → HasGathered script (take (k + 1) core.exts) after
+gathered_at script core k ext before after is has tick gathers comp =
+    let past : List Ext = take k core.exts in
+    let lt : k < length core.exts = slice_get_within core.exts k ext is.there in
+    let many : length past ≡ k = length-take-le k core.exts (omega (arith, lt)) in
+    let own : Gathers script ext (next_ran script past ext).world.entries before after
+    = subst (λ (r : Ran). Gathers script ext r.world.entries before after) (served_is script core k ext is) gathers in
+    subst (λ (l : List Ext). HasGathered script l after) (sym (first_more script core k ext is))
+    (gathered_more script past ext before after has tick own (omega (arith, comp, many)))
+
+-- an admission among the later ones
+pub later_at : (P : Ext → Type 0) (exts : List Ext) (n k : ℕ) (d : Ext) → All P (drop n exts) → n ≤ k → k < length exts → P (get_or exts k d)
+later_at P exts n k d all le lt =
+    let place : n + (k - n) ≡ k = omega (arith, le) in
+    let within : k - n < length (drop n exts) = omega (arith, le, lt, length-drop n exts) in
+    subst P (get_or-drop n exts (k - n) d ∙ ap (λ (i : ℕ). get_or exts i d) place) (All-get_or P (drop n exts) (k - n) d within all)
 
 -- its part of the report comes before those of the later ones
 pub text_at : (script : Script) (calls : Bool) (core : Trace) (k : ℕ) (ext : Ext) → IsAt script core k ext

@@ -2,6 +2,7 @@
 use Rattle.std.proofs.Common.{arith, ◌≡◌, ℕ, ◌<◌, ◌≤◌, Bool, true, sym, ap, subst, ◌∙◌, List, [], ◌++◌, length, take, drop, if◌then◌else◌, nat_lt}
 use Rattle.std.proofs.Math.Seq.{take-append_seam, drop-append_seam}
 use Rattle.std.proofs.lemmas.Bool.Decides.{nat_tests}
+use Rattle.std.specs.List.{All}
 use Rattle.samoa_model.specs.declared.record.Ext.{Ext}
 use Rattle.samoa_model.specs.declared.script.Script.{Script}
 use Rattle.samoa_model.specs.Cells.{need}
@@ -12,7 +13,9 @@ use Rattle.samoa_invariant.proofs.representation.Traces.{state-clear}
 use Rattle.samoa_core.specs.Later.{IsLater}
 use Rattle.samoa_core.specs.Since.{cleared_comps}
 use Rattle.samoa_core.proofs.Since.{cleared-clear}
+use Rattle.samoa_net.specs.Gathered.{Gathered}
 use Rattle.samoa_run.specs.declared.totals.Totals.{Totals}
+use Rattle.samoa_run.specs.Gathering.{HasGathered}
 use Rattle.samoa_run.specs.Running.{AreTotals, HasOpened, HasRun, later_text}
 
 -- after these computations those have ended, and weren't cleared away
@@ -53,6 +56,16 @@ pub counted_before : (script : Script) (past exts : List Ext) (w : Trace) (total
     → AreTotals script (take totals.comps w.exts) totals
 counted_before script past exts w totals ended are =
     let A : List Ext → Type 0 = λ l. AreTotals script l totals in subst A (sym (before_is script past exts w totals.comps ended are.comps).0) are
+
+pub gathered_before : (script : Script) (past exts : List Ext) (w : Trace) (n : ℕ) (net : Gathered) → HasEnded script past exts w → n ≡ length past → HasGathered script past net
+    → HasGathered script (take n w.exts) net
+gathered_before script past exts w n net ended e has = subst (λ (l : List Ext). HasGathered script l net) (sym (before_is script past exts w n ended e).0) has
+
+pub all_since : (P : Ext → Type 0) (script : Script) (past exts : List Ext) (w : Trace) (n : ℕ) → HasEnded script past exts w → n ≡ length past → All P exts → All P (drop n w.exts)
+all_since P script past exts w n ended e all = subst (λ (l : List Ext). All P l) (sym (before_is script past exts w n ended e).1) all
+
+pub gathered_with : (script : Script) (past exts : List Ext) (w : Trace) (net : Gathered) → HasEnded script past exts w → HasGathered script w.exts net → HasGathered script (past ++ exts) net
+gathered_with script past exts w net ended has = subst (λ (l : List Ext). HasGathered script l net) ended.exts has
 
 -- their part of the report
 pub text_of : (script : Script) (calls : Bool) (past exts : List Ext) (w : Trace) (totals : Totals) (none text : List ℕ) → HasEnded script past exts w → AreTotals script past totals → none ≡ []

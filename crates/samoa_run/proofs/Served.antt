@@ -12,12 +12,13 @@ use Rattle.samoa_script.proofs.Apart.{one_script, answers_apart}
 use Rattle.samoa_run.specs.Readings.{IsFaultOf, IsReading}
 use Rattle.samoa_run.specs.declared.status.Status.{Status}
 use Rattle.samoa_run.specs.declared.status.Status.TheVariants as statuses
-use Rattle.samoa_run.specs.declared.status.Status.TheVariants.{Done, Usage, Refused, SourceFailed, SinkFailed}
+use Rattle.samoa_run.specs.declared.status.Status.TheVariants.{Done, Usage, Refused, SourceFailed, SinkFailed, Limited}
 use Rattle.samoa_run.specs.declared.words.Order.{Order}
 use Rattle.samoa_run.specs.Statuses.{number}
 use Rattle.samoa_run.specs.declared.words.Order.TheVariants.{Run, Serial, Check}
-use Rattle.samoa_serial.specs.Report.{report}
-use Rattle.samoa_run.specs.Due.{IsAnswerTo, IsOutput, IsTreated, can_do, canonical_text, due_status, fault_line, is_memory, status_if, turned_away_line}
+use Rattle.samoa_serial.specs.LimitedReport.{report_in_full}
+use Rattle.samoa_serial.specs.Ticks.{is_limited}
+use Rattle.samoa_run.specs.Due.{IsAnswerTo, IsOutput, IsTreated, can_do, canonical_text, done_status, due_status, fault_line, is_memory, status_if, status_of_run, turned_away_line}
 use Rattle.samoa_run.specs.Serving.{Answers, AnswersOne, IsDueOrFailed}
 
 -- what was read is the input, where that is no longer than the limit
@@ -119,7 +120,7 @@ pub number-same : (a b : Status) → number a ≡ number b → a ≡ b
 number-same a b e = sym (back a) ∙ (ap named e ∙ back b)
   where
     named : ℕ → Status
-    named n = cond (n == 0) Done (cond (n == 2) Usage (cond (n == 3) Refused (cond (n == 4) SourceFailed (cond (n == 5) SinkFailed statuses.Memory))))
+    named n = cond (n == 0) Done (cond (n == 2) Usage (cond (n == 3) Refused (cond (n == 4) SourceFailed (cond (n == 5) SinkFailed (cond (n == 6) statuses.Memory Limited)))))
 
     back : (s : Status) → named (number s) ≡ s
     back Done = refl
@@ -128,6 +129,7 @@ number-same a b e = sym (back a) ∙ (ap named e ∙ back b)
     back SourceFailed = refl
     back SinkFailed = refl
     back statuses.Memory = refl
+    back Limited = refl
 
 -- a text that is meant answers
 pub one_of : {due : ℕ} {meant : List ℕ → Type 0} {old new : Option (List ℕ)} {status : ℕ} (text : List ℕ) → meant text → Answers due text old new status
@@ -155,47 +157,25 @@ the_one {old = old} {new = new} text answers =
 
 -- a script that can be treated as ordered, and one that can't
 pub treats : (order : Order) (script : Script) {old new : Option (List ℕ)} {status : ℕ} (text : List ℕ) → can_do order script ≡ true → IsOutput order script text
-    → Answers (number Done) text old new status → AnswersOne (due_status order (Ok script)) (IsAnswerTo order (Ok script)) old new status
+    → Answers (done_status order script) text old new status → AnswersOne (due_status order (Ok script)) (IsAnswerTo order (Ok script)) old new status
 treats order script {old = old} {new = new} {status = status} text can is answers =
-    let F : Bool → Type 0 = λ b. AnswersOne (status_if b) (IsTreated b order script) old new status in
+    let F : Bool → Type 0 = λ b. AnswersOne (status_if b order script) (IsTreated b order script) old new status in
     subst F (sym can) (one_of text is answers)
 
 pub turns_away : (order : Order) (script : Script) {old new : Option (List ℕ)} {status : ℕ} (text : List ℕ) → can_do order script ≡ false → text ≡ turned_away_line order script
     → Answers (number Refused) text old new status → AnswersOne (due_status order (Ok script)) (IsAnswerTo order (Ok script)) old new status
 turns_away order script {old = old} {new = new} {status = status} text can is answers =
-    let F : Bool → Type 0 = λ b. AnswersOne (status_if b) (IsTreated b order script) old new status in
+    let F : Bool → Type 0 = λ b. AnswersOne (status_if b order script) (IsTreated b order script) old new status in
     subst F (sym can) (one_of text is answers)
 
 pub not_memory : (fault : ScriptFault) → is_memory fault ≡ false → fault ≡ Memory → ⊥
 not_memory fault other is = let yes : is_memory fault ≡ true = ap is_memory is in absurd (cc)
 
--- all of it was written
-pub answers_all : (due : ℕ) (text : List ℕ) (old new : Option (List ℕ)) → due < 4 → Appends old new text → Answers due text old new due
-answers_all due text old new low a =
-    record {
-      whole = λ _. a;
-      sink_failed = λ e. absurd (omega arith);
-      memory = λ e. absurd (omega arith);
-      source_failed = λ e. absurd (omega arith);
-      no_other = inl refl;
-    }
-
--- the sink failed
-pub answers_part : (due : ℕ) (text : List ℕ) (old new : Option (List ℕ)) → due < 4 → AppendsPrefix old new text → Answers due text old new 5
-answers_part due text old new low p =
-    record {
-      whole = λ e. absurd (omega arith);
-      sink_failed = λ _. p;
-      memory = λ e. absurd (omega arith);
-      source_failed = λ e. absurd (omega arith);
-      no_other = inr (inr (inl refl));
-    }
-
 -- there was no memory
-pub answers_memory : (due : ℕ) (text : List ℕ) (old new : Option (List ℕ)) → due < 4 → AppendsPrefix old new text → Answers due text old new 6
-answers_memory due text old new low p =
+pub answers_memory : (due : ℕ) (text : List ℕ) (old new : Option (List ℕ)) → (due ≡ 6 → ⊥) → AppendsPrefix old new text → Answers due text old new 6
+answers_memory due text old new other p =
     record {
-      whole = λ e. absurd (omega arith);
+      whole = λ e. absurd (other (sym e));
       sink_failed = λ e. absurd (omega arith);
       memory = λ _. p;
       source_failed = λ e. absurd (omega arith);
@@ -204,8 +184,8 @@ answers_memory due text old new low p =
 
 -- some text may be written for what was read
 some_output : (order : Order) (script : Script) → (text : List ℕ) × IsOutput order script text
-some_output (Run cells calls) script = (report script calls, refl)
-some_output (Serial calls) script = (report script calls, refl)
+some_output (Run cells calls) script = (report_in_full script calls, refl)
+some_output (Serial calls) script = (report_in_full script calls, refl)
 some_output Check script = (canonical_text script, refl)
 
 some_treated : (b : Bool) (order : Order) (script : Script) → (text : List ℕ) × IsTreated b order script text
@@ -216,13 +196,28 @@ some_answer : (order : Order) (found : Result Script ScriptFault) → (text : Li
 some_answer order (Ok script) = some_treated (can_do order script) order script
 some_answer order (Err fault) = (fault_line fault, refl)
 
-low_if : (b : Bool) → status_if b < 4
-low_if true = omega arith
-low_if false = omega arith
+-- a run ends with 8 or 0
+run_ends : (limited : Bool) → (status_of_run limited ≡ number Limited) ⊎ (status_of_run limited ≡ number Done)
+run_ends true = inl refl
+run_ends false = inr refl
 
-due_low : (order : Order) (found : Result Script ScriptFault) → due_status order found < 4
-due_low order (Ok script) = low_if (can_do order script)
-due_low order (Err fault) = omega arith
+pub done_ends : (order : Order) (script : Script) → (done_status order script ≡ number Limited) ⊎ (done_status order script ≡ number Done)
+done_ends (Run cells calls) script = run_ends (is_limited script)
+done_ends (Serial calls) script = run_ends (is_limited script)
+done_ends Check script = inr refl
+
+-- want of memory is due for nothing
+not_six : (order : Order) (script : Script) → (done_status order script ≡ number Limited) ⊎ (done_status order script ≡ number Done) → done_status order script ≡ 6 → ⊥
+not_six order script (inl is) six = absurd (omega (arith, is, six))
+not_six order script (inr is) six = absurd (omega (arith, is, six))
+
+due_if : (b : Bool) (order : Order) (script : Script) → status_if b order script ≡ 6 → ⊥
+due_if true order script six = not_six order script (done_ends order script) six
+due_if false order script six = omega (arith, six)
+
+due_other : (order : Order) (found : Result Script ScriptFault) → due_status order found ≡ 6 → ⊥
+due_other order (Ok script) six = due_if (can_do order script) order script six
+due_other order (Err fault) six = omega (arith, six)
 
 nothing_yet : (old : Option (List ℕ)) (text : List ℕ) → AppendsPrefix old old text
 nothing_yet old text = record { piece = []; appended = Appends-nil old; prefix = record { rest = text; whole = refl } }
@@ -232,4 +227,4 @@ pub unread : (order : Order) (found : Result Script ScriptFault) (old : Option (
     → AnswersOne (due_status order found) (IsAnswerTo order found) old old (number statuses.Memory)
 unread order found old =
     let some = some_answer order found in
-    one_of some.0 some.1 (answers_memory (due_status order found) some.0 old old (due_low order found) (nothing_yet old some.0))
+    one_of some.0 some.1 (answers_memory (due_status order found) some.0 old old (due_other order found) (nothing_yet old some.0))

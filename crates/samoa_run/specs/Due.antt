@@ -2,7 +2,8 @@
 use Rattle.std.specs.Prelude.{◌≡◌, ℕ, ◌++◌, Bool, true, false, ◌&&◌, List, nat_le, codes, decimal, Result, Ok, Err, if◌then◌else◌}
 use Rattle.samoa_model.specs.declared.script.Script.{Script}
 use Rattle.samoa_model.specs.Cells.{need}
-use Rattle.samoa_serial.specs.Report.{report}
+use Rattle.samoa_serial.specs.LimitedReport.{report_in_full}
+use Rattle.samoa_serial.specs.Ticks.{is_limited}
 use Rattle.samoa_script.specs.declared.fault.ScriptFault.{ScriptFault}
 use Rattle.samoa_script.specs.declared.fault.ScriptFault.TheVariants.{TooLong, NotJson, Missing, WrongForm, Unknown, Twice, Over, Memory}
 use Rattle.serde_json.specs.Written.{compact_text}
@@ -12,7 +13,7 @@ use Rattle.samoa_run.specs.declared.words.Order.TheVariants.{Run, Serial, Check}
 use Rattle.samoa_run.specs.declared.stop.Stop.{Stop}
 use Rattle.samoa_run.specs.declared.stop.Stop.TheVariants as stops
 use Rattle.samoa_run.specs.declared.status.Status.TheVariants as statuses
-use Rattle.samoa_run.specs.declared.status.Status.TheVariants.{Done, Refused, SinkFailed}
+use Rattle.samoa_run.specs.declared.status.Status.TheVariants.{Done, Refused, SinkFailed, Limited}
 use Rattle.samoa_run.specs.Statuses.{number}
 use Rattle.samoa_run.specs.Built.{is_built}
 
@@ -35,8 +36,8 @@ canonical_text script = compact_text (tree_of script) ++ codes "\n"
 
 -- what may be written for a script
 abbrev pub IsOutput : Order → Script → List ℕ → Type 0
-IsOutput (Run cells calls) script text = text ≡ report script calls
-IsOutput (Serial calls) script text = text ≡ report script calls
+IsOutput (Run cells calls) script text = text ≡ report_in_full script calls
+IsOutput (Serial calls) script text = text ≡ report_in_full script calls
 IsOutput Check script text = text ≡ canonical_text script
 
 abbrev pub not_yet_line : List ℕ
@@ -69,10 +70,23 @@ fault_text Memory = codes "Memory"
 abbrev pub fault_line : ScriptFault → List ℕ
 fault_line fault = codes "! script " ++ (fault_text fault ++ codes "\n")
 
+-- the status of a run that was written, which the limit of computations may have ended
+abbrev pub status_of_run : Bool → ℕ
+status_of_run limited = if limited then number Limited else number Done
+
+abbrev pub run_status : Script → ℕ
+run_status script = status_of_run (is_limited script)
+
+-- the status where a script was treated as ordered
+abbrev pub done_status : Order → Script → ℕ
+done_status (Run cells calls) script = run_status script
+done_status (Serial calls) script = run_status script
+done_status Check script = number Done
+
 -- the status that is due for a script, where it can be treated as ordered or not, and what may be written then
-abbrev pub status_if : Bool → ℕ
-status_if true = number Done
-status_if false = number Refused
+abbrev pub status_if : Bool → Order → Script → ℕ
+status_if true order script = done_status order script
+status_if false order script = number Refused
 
 abbrev pub IsTreated : Bool → Order → Script → List ℕ → Type 0
 IsTreated true order script text = IsOutput order script text
@@ -80,15 +94,15 @@ IsTreated false order script text = text ≡ turned_away_line order script
 
 -- the status that is due for what was read, and what may be written
 abbrev pub due_status : Order → Result Script ScriptFault → ℕ
-due_status order (Ok script) = status_if (can_do order script)
+due_status order (Ok script) = status_if (can_do order script) order script
 due_status order (Err fault) = number Refused
 
 abbrev pub IsAnswerTo : Order → Result Script ScriptFault → List ℕ → Type 0
 IsAnswerTo order (Ok script) text = IsTreated (can_do order script) order script text
 IsAnswerTo order (Err fault) text = text ≡ fault_line fault
 
--- the status that what was written ends with
-abbrev pub ended_with : {T : Type 0} → Result T Stop → ℕ
-ended_with (Ok done) = number Done
-ended_with (Err stops.Failed) = number SinkFailed
-ended_with (Err stops.Memory) = number statuses.Memory
+-- the status that a run ends with, of which it is known whether the limit ended it
+abbrev pub ended_with : {T : Type 0} → (T → Bool) → Result T Stop → ℕ
+ended_with limited (Ok done) = status_of_run (limited done)
+ended_with limited (Err stops.Failed) = number SinkFailed
+ended_with limited (Err stops.Memory) = number statuses.Memory

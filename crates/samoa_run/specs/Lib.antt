@@ -2,8 +2,8 @@ pub mod Statuses
 pub mod Built
 pub mod Words
 pub mod Due
+pub mod Gathering
 pub mod Reading
 pub mod Readings
 pub mod Running
-pub mod Schedule
 pub mod Serving

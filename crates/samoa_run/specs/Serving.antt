@@ -9,9 +9,9 @@ use Rattle.samoa_script.specs.declared.fault.ScriptFault.{ScriptFault}
 use Rattle.samoa_run.specs.Readings.{IsFaultOf}
 use Rattle.samoa_run.specs.declared.words.Order.{Order}
 use Rattle.samoa_run.specs.declared.reading.TheConstants.{LIMIT}
-use Rattle.samoa_run.specs.declared.status.Status.TheVariants.{Done, Refused, SourceFailed, SinkFailed, Memory}
+use Rattle.samoa_run.specs.declared.status.Status.TheVariants.{Done, Refused, SourceFailed, SinkFailed, Memory, Limited}
 use Rattle.samoa_run.specs.Statuses.{number}
-use Rattle.samoa_run.specs.Due.{IsOutput, can_do, turned_away_line, fault_line}
+use Rattle.samoa_run.specs.Due.{IsOutput, can_do, done_status, turned_away_line, fault_line}
 use Rattle.samoa_run.specs.declared.stop.Stop.{Stop}
 use Rattle.samoa_run.specs.declared.stop.Stop.TheVariants.{Failed}
 
@@ -77,18 +77,18 @@ pub record NoFault (ends : Ends) : Type 0 where
 -- an order was carried out with this status
 pub record Obeys (order : Order) (ends : Ends) (status : ℕ) : Type 0 where
   pub done : (input : List ℕ) (script : Script) → ends.left ≡ Some input → Holds input script → can_do order script ≡ true
-      → AnswersOne (number Done) (IsOutput order script) ends.written ends.written_after status
+      → AnswersOne (done_status order script) (IsOutput order script) ends.written ends.written_after status
   pub turned_away : (input : List ℕ) (script : Script) → ends.left ≡ Some input → Holds input script → can_do order script ≡ false
       → Answers (number Refused) (turned_away_line order script) ends.written ends.written_after status
   pub refused : (input : List ℕ) (fault : ScriptFault) → ends.left ≡ Some input → IsFaultOf input fault
       → Answers (number Refused) (fault_line fault) ends.written ends.written_after status
   pub refused_only : (input : List ℕ) → ends.left ≡ Some input → status ≡ number Refused → IsRefused order input
   pub complete : (input : List ℕ) (script : Script) → ends.left ≡ Some input → Holds input script → can_do order script ≡ true
-      → NoFault ends → (status ≡ number Done) ⊎ (status ≡ number Memory)
+      → NoFault ends → (status ≡ done_status order script) ⊎ (status ≡ number Memory)
   pub complete_refused : (input : List ℕ) → ends.left ≡ Some input → IsRefused order input
       → NoFault ends → (status ≡ number Refused) ⊎ (status ≡ number Memory)
-  pub read : status ≡ number Done → IsAtEnd ends.left_after
+  pub read : (status ≡ number Done) ⊎ (status ≡ number Limited) → IsAtEnd ends.left_after
   pub refused_read : (input : List ℕ) → ends.left ≡ Some input → length input ≤ LIMIT → status ≡ number Refused → IsAtEnd ends.left_after
   pub source_failed : status ≡ number SourceFailed → Rose ends.source_faults ends.source_faults_after
   pub sink_failed : status ≡ number SinkFailed → Rose ends.sink_faults ends.sink_faults_after
-  pub statuses : (status ≡ number Done) ⊎ IsDueOrFailed (number Refused) status
+  pub statuses : (status ≡ number Done) ⊎ ((status ≡ number Limited) ⊎ IsDueOrFailed (number Refused) status)

@@ -1,6 +1,6 @@
 //! An order on what was read.
 ghost use Rattle.std.specs.Prelude.{◌≡◌, ◌≢◌, ◌≤◌, ◌<◌, ◌⊎◌, Ok, IfOk};
-ghost use Rattle.samoa_model.specs.Range.{IsInRange};
+ghost use Rattle.samoa_model.specs.Valid.{IsValid};
 ghost use Rattle.samoa_model.specs.declared.setup.Kind.TheVariants.{Prog};
 ghost use Rattle.samoa_ends.specs.Causes.{Rose};
 ghost use Rattle.samoa_micro.specs.Covers.{count_of};
@@ -10,12 +10,11 @@ ghost use Rattle.samoa_run.specs.Statuses.{number};
 
 use crate::fault::{cells_line, fault_line};
 use crate::ready::built;
-use crate::report::run_script;
+use crate::report::{Finished, run_script};
 use crate::status::Status;
 use crate::stop::Stop;
 use crate::words::{CELLS, Order};
 use crate::writing::write_lines;
-use samoa_core::Core;
 use samoa_ends::{Failed, Sink};
 use samoa_micro::{Micro, Stock};
 use samoa_model::{NoMemory, Script};
@@ -31,7 +30,7 @@ pub fn treat<K: Sink, B: Micro>(
     stock: Stock<B>,
     sink: &mut K,
 ) -> Status
-    requires in_range { IsInRange script.now }
+    requires valid { IsValid script.now }
     requires stock { 32 ≤ count_of stock Prog }
     ensures written { AnswersOne (due_status order (Ok script.now)) (IsAnswerTo order (Ok script.now)) (K.written sink.old) (K.written sink.new) (number result) }
     ensures statuses { (number result ≡ due_status order (Ok script.now)) ⊎ (result ≡ Status.SinkFailed) ⊎ (result ≡ Status.Memory) }
@@ -53,7 +52,7 @@ fn run_in_parts<K: Sink, B: Micro>(
     calls: bool,
     sink: &mut K,
 ) -> Status
-    requires in_range { IsInRange script.now }
+    requires valid { IsValid script.now }
     requires stock { 32 ≤ count_of stock Prog }
     ensures written { AnswersOne (due_status (Order.Run cells calls) (Ok script.now)) (IsAnswerTo (Order.Run cells calls) (Ok script.now)) (K.written sink.old) (K.written sink.new) (number result) }
     ensures statuses { (number result ≡ due_status (Order.Run cells calls) (Ok script.now)) ⊎ (result ≡ Status.SinkFailed) ⊎ (result ≡ Status.Memory) }
@@ -77,7 +76,7 @@ fn run_one_by_one<K: Sink, B: Micro>(
     calls: bool,
     sink: &mut K,
 ) -> Status
-    requires in_range { IsInRange script.now }
+    requires valid { IsValid script.now }
     requires stock { 32 ≤ count_of stock Prog }
     ensures written { AnswersOne (due_status (Order.Serial calls) (Ok script.now)) (IsAnswerTo (Order.Serial calls) (Ok script.now)) (K.written sink.old) (K.written sink.new) (number result) }
     ensures statuses { (number result ≡ due_status (Order.Serial calls) (Ok script.now)) ⊎ (result ≡ Status.SinkFailed) ⊎ (result ≡ Status.Memory) }
@@ -89,11 +88,12 @@ fn run_one_by_one<K: Sink, B: Micro>(
     status_of(run_script(alloc, script, stock, CELLS, true, calls, sink))
 }
 
-/// The status of what was written.
-fn status_of<B: Micro>(written: Result<Core<B>, Stop>) -> Status
-    ensures { number result ≡ ended_with written }
+/// The status of a run.
+fn status_of<B: Micro>(written: Result<Finished<B>, Stop>) -> Status
+    ensures { number result ≡ ended_with (λ finished. finished.limited) written }
 {
     match written {
+        Ok(finished) if finished.limited => Status::Limited,
         Ok(_) => Status::Done,
         Err(Stop::Failed) => Status::SinkFailed,
         Err(Stop::Memory) => Status::Memory,

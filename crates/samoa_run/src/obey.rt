@@ -53,11 +53,12 @@ fn carry_out<S: Source, K: Sink, B: Micro>(
     ensures refused_only { (input : List ℕ) → S.left source.old ≡ Some input → result ≡ Status.Refused
         → (found : Result ScriptValue Fault) × (IsReading input found × (due_status order found ≡ number Status.Refused)) }
     ensures read { result ≡ Status.Done → IsAtEnd (S.left source.new) }
+    ensures limited_read { result ≡ Status.Limited → IsAtEnd (S.left source.new) }
     ensures refused_read { (input : List ℕ) → S.left source.old ≡ Some input → length input ≤ LIMIT → result ≡ Status.Refused
         → IsAtEnd (S.left source.new) }
     ensures source_failed { result ≡ Status.SourceFailed → Rose (S.faults source.old) (S.faults source.new) }
     ensures sink_failed { result ≡ Status.SinkFailed → Rose (K.faults sink.old) (K.faults sink.new) }
-    ensures statuses { (number result ≡ number Status.Done) ⊎ IsDueOrFailed (number Status.Refused) (number result) }
+    ensures statuses { (number result ≡ number Status.Done) ⊎ ((number result ≡ number Status.Limited) ⊎ IsDueOrFailed (number Status.Refused) (number result)) }
 {
     let bytes = match read_input(alloc, source) {
         Ok(bytes) => bytes,

@@ -17,6 +17,8 @@ pub enum Status {
     SinkFailed,
     /// There was no memory.
     Memory,
+    /// The limit of computations ended a run, and all of it was written.
+    Limited,
 }
 
 impl Status {
@@ -31,6 +33,7 @@ impl Status {
             Status::SourceFailed => 4,
             Status::SinkFailed => 5,
             Status::Memory => 6,
+            Status::Limited => 8,
         }
     }
 }

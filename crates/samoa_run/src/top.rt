@@ -4,12 +4,13 @@ ghost use Rattle.std.specs.Io.KnownBytes.{IsAtEnd};
 ghost use Rattle.samoa_model.specs.declared.script.Script.{Script as ScriptValue};
 ghost use Rattle.samoa_model.specs.declared.setup.Kind.TheVariants.{Prog};
 ghost use Rattle.samoa_model.specs.Cells.{need};
-ghost use Rattle.samoa_serial.specs.Report.{report};
+ghost use Rattle.samoa_serial.specs.LimitedReport.{report_in_full};
 ghost use Rattle.samoa_ends.specs.Causes.{Rose};
 ghost use Rattle.samoa_grammar.specs.Held.{Holds};
 ghost use Rattle.samoa_micro.specs.Covers.{count_of};
 ghost use Rattle.samoa_run.specs.declared.words.Order.{Order as OrderValue};
 ghost use Rattle.samoa_run.specs.Built.{is_built};
+ghost use Rattle.samoa_run.specs.Due.{run_status};
 ghost use Rattle.samoa_run.specs.Serving.{Answers, Obeys};
 ghost use Rattle.samoa_run.specs.Statuses.{number};
 ghost use Rattle.samoa_run.specs.Words.{order_in as order_of, check_only as only_check, serial_only as only_serial};
@@ -36,16 +37,18 @@ use std::thread::Threads;
 ///
 /// The source is read to its end, or to one byte past 1,048,576. A run has as many computations open at once as its cells
 /// are enough for (1 to 1,048,576, and 65,536 where none are given): 16 for each unit of a budget, and 16 more. The number
-/// of cells changes no byte of the report.
+/// of cells changes no byte of the report. At most 100,000 computations are run; where more would be admitted, the line
+/// `L 100000` ends the report, in place of the states and the totals.
 ///
 /// | Status | Comes | What is written |
 /// |---|---|---|
-/// | 0 | all was done and written | the report, or the text |
+/// | 0 | all was done and written, and the limit didn't end the run | the report, or the text |
 /// | 2 | the words are others | `! usage` |
 /// | 3 | the input has a fault, or can't run yet, or the cells are too few for it | the fault line |
 /// | 4 | a read failed | nothing |
 /// | 5 | a write failed | a prefix of what was to be written |
 /// | 6 | there was no memory | a prefix of what was to be written |
+/// | 8 | the limit ended the run: computation 100,001 would be admitted | the report, which ends with the line of the limit |
 ///
 /// The sink is given the rest of one line at a time. For now `run` works on one thread, and no gate is called.
 pub fn serve<R: Wait + Threads + Sync, S: Source, K: Sink, G: Gate + Sync, B: Micro + Send>(
@@ -60,10 +63,12 @@ pub fn serve<R: Wait + Threads + Sync, S: Source, K: Sink, G: Gate + Sync, B: Mi
     requires { 32 ≤ count_of stock Prog }
 
     // The headline: the words ask for a run, the input holds a script that can run, and the cells are enough for it. What
-    // is written is a prefix of the report of running its events whole, one after another, and at status 0 all of it.
+    // is written is a prefix of the report of running all that it admits whole, one after another: its own events, the
+    // messages and the changes that were asked for. All of it is written at the due status: 8 where the limit ends the
+    // run, and else 0.
     ensures report { (input : List ℕ) (script : ScriptValue) (cells : ℕ) (calls : Bool) → order_of (map string_bytes words.now) ≡ Some (OrderValue.Run cells calls)
         → S.left source.old ≡ Some input → Holds input script → is_built script ≡ true → need script ≤ cells
-        → Answers 0 (report script calls) (K.written sink.old) (K.written sink.new) result }
+        → Answers (run_status script) (report_in_full script calls) (K.written sink.old) (K.written sink.new) result }
 
     // The words give an order, and it is carried out.
     ensures obeys { (order : OrderValue) → order_of (map string_bytes words.now) ≡ Some order → Obeys order
@@ -98,7 +103,7 @@ pub fn serve_serial<S: Source, K: Sink, B: Micro>(
     // The words ask for a serial run, and the input holds a script that can run.
     ensures report { (input : List ℕ) (script : ScriptValue) (calls : Bool) → order_of (map string_bytes words.now) ≡ Some (OrderValue.Serial calls)
         → S.left source.old ≡ Some input → Holds input script → is_built script ≡ true
-        → Answers 0 (report script calls) (K.written sink.old) (K.written sink.new) result }
+        → Answers (run_status script) (report_in_full script calls) (K.written sink.old) (K.written sink.new) result }
 
     ensures obeys { (order : OrderValue) → option_and_then only_serial (order_of (map string_bytes words.now)) ≡ Some order → Obeys order
         (record { left = S.left source.old; left_after = S.left source.new; source_faults = S.faults source.old; source_faults_after = S.faults source.new; written = K.written sink.old; written_after = K.written sink.new; sink_faults = K.faults sink.old; sink_faults_after = K.faults sink.new })

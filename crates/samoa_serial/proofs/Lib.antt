@@ -13,6 +13,7 @@ pub mod HistoryLaws
 pub mod KeptLaws
 mod KindsReference
 pub mod Lengths
+pub mod LimitLaws
 pub mod ListLaws
 pub mod Point
 pub mod RangeLaws

@@ -17,7 +17,7 @@ use Rattle.samoa_serial.specs.Lines.{total_text}
 use Rattle.samoa_serial.specs.Report.{comps_text, states_text, is_delivery, is_refusal, entries_of_sort, report_of, report}
 use Rattle.samoa_serial.specs.Lists.{Each}
 use Rattle.samoa_serial.specs.Batch.{sent_by, asked_by, by_each, is_up, would_admit, batch_after}
-use Rattle.samoa_serial.specs.Ticks.{history_within, is_limited_to, admitted_to}
+use Rattle.samoa_serial.specs.Ticks.{history_within, is_limited_by, is_limited_to, admitted_by, admitted_to}
 use Rattle.samoa_serial.specs.LimitedReport.{report_with, report_to}
 use Rattle.samoa_serial.proofs.HistoryLaws.{in_first, length-history_to}
 use Rattle.samoa_serial.specs.Known.{EachEntry, IsQuiet, IsStill}
@@ -98,13 +98,13 @@ still_within most script still few n = go (within_is most script n)
             absurd (omega (arith, past, short, same, few))
 
 pub still_admitted : (most : ℕ) (script : Script) → IsStill script → length script.does ≤ most → admitted_to most script ≡ history script
-unfolding admitted_to history
+unfolding admitted_to admitted_by history
 still_admitted most script still few =
     ap (λ (xs : List Ext). take most xs) (still_within most script still few script.ticks)
     ∙ take_all most (history_to script script.ticks) (omega (arith, length-few script script.ticks, few))
 
 pub still_unlimited : (most : ℕ) (script : Script) → IsStill script → length script.does ≤ most → is_limited_to most script ≡ false
-unfolding is_limited_to
+unfolding is_limited_to is_limited_by
 still_unlimited most script still few =
     let same : length (history_within most script script.ticks) ≡ length (history_to script script.ticks)
     = ap (λ (xs : List Ext). length xs) (still_within most script still few script.ticks) in

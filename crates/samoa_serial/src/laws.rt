@@ -1,8 +1,10 @@
 //! What holds of every script and of every computation. Each function here is a law: its body is empty, and its contract
 //! says what is proved.
-ghost use Rattle.std.specs.Prelude.{◌≡◌, ℕ, ◌+◌, ◌-◌, ◌*◌, ◌^◌, ◌<◌, ◌≤◌, List, [], ◌∷◌, ◌++◌, Bool, true, false, length};
+ghost use Rattle.std.specs.Prelude.{◌≡◌, ℕ, ◌+◌, ◌-◌, ◌*◌, ◌^◌, ◌<◌, ◌≤◌, List, [], ◌∷◌, ◌++◌, Bool, true, false, length, nat_lt, take};
+ghost use Rattle.std.specs.List.{flat_map};
 ghost use Rattle.samoa_model.specs.declared.handler.Moment.{Moment};
 ghost use Rattle.samoa_model.specs.declared.ids.EventId.{EventId};
+ghost use Rattle.samoa_model.specs.declared.record.Entry.{Entry};
 ghost use Rattle.samoa_model.specs.declared.record.Ext.{Ext};
 ghost use Rattle.samoa_model.specs.declared.script.Script.{Script};
 ghost use Rattle.samoa_model.specs.Range.{IsExtOf, IsInRange};
@@ -11,18 +13,19 @@ ghost use Rattle.samoa_serial.specs.declared.keys.Key.{Key};
 ghost use Rattle.samoa_serial.specs.declared.message.Message.{Message};
 ghost use Rattle.samoa_serial.specs.AbcastTable.{abcast_is_done, abcast_skip};
 ghost use Rattle.samoa_serial.specs.Alone.{after, ended, opening};
+ghost use Rattle.samoa_serial.specs.Batch.{asked_by, by_each, sent_by};
 ghost use Rattle.samoa_serial.specs.History.{history};
 ghost use Rattle.samoa_serial.specs.Kinds.{kind_step};
 ghost use Rattle.samoa_serial.specs.Known.{EachEntry, HasSilentCode, IsKnown, IsOutcomeOf, IsStill};
 ghost use Rattle.samoa_serial.specs.LimitedReport.{report_to};
-ghost use Rattle.samoa_serial.specs.Lists.{Each};
+ghost use Rattle.samoa_serial.specs.Lists.{Begins, Each};
 ghost use Rattle.samoa_serial.specs.Origins.{IsAdmitted};
 ghost use Rattle.samoa_serial.specs.Report.{report};
 ghost use Rattle.samoa_serial.specs.Rows.{message_of};
-ghost use Rattle.samoa_serial.specs.SerialRun.{serial};
+ghost use Rattle.samoa_serial.specs.SerialRun.{ran_of, serial};
 ghost use Rattle.samoa_serial.specs.State.{State};
-ghost use Rattle.samoa_serial.specs.Ticks.{admitted_to, history_within, is_limited_to};
-ghost use Rattle.samoa_serial.specs.Whole.{event_whole};
+ghost use Rattle.samoa_serial.specs.Ticks.{IsBatch, admitted_by, admitted_to, history_within, is_limited_by, is_limited_to};
+ghost use Rattle.samoa_serial.specs.Whole.{Ran, event_whole};
 ghost use Rattle.samoa_serial.specs.World.{AcceptsAtMostFour, Rules, States};
 
 /// The explicit list of active calls agrees with the recursion over whole calls: after as many turns as the whole event
@@ -66,6 +69,35 @@ pub fn admissions_have_their_origin()
     ensures origin { (most : ℕ) (script : Script) (before : List Ext) (ext : Ext) (later : List Ext) → admitted_to most script ≡ before ++ ext ∷ later
         → IsAdmitted script before ext }
     ensures known { (most : ℕ) (script : Script) → IsInRange script → Each (IsExtOf script) (admitted_to most script) }
+{}
+
+/// What the first ticks admit, with any limit. Before the first tick nothing is admitted. While the limit isn't passed, a
+/// tick adds as much of its batch as the limit leaves room for, and passes it where the batch has more; of the batch the
+/// first places decide, one more than the limit. What fewer ticks admit comes first, and once the limit is passed no tick
+/// adds anything.
+pub fn ticks_add_up_to_the_limit()
+    ensures none { (most : ℕ) (script : Script) → (admitted_by most script 0 ≡ []) × (is_limited_by most script 0 ≡ false) }
+    ensures adds { (most : ℕ) (script : Script) (tick : ℕ) (batch : List Ext) → is_limited_by most script tick ≡ false → IsBatch most script tick batch
+        → admitted_by most script (tick + 1) ≡ admitted_by most script tick ++ take (most - length (admitted_by most script tick)) batch }
+    ensures passes { (most : ℕ) (script : Script) (tick : ℕ) (batch : List Ext) → is_limited_by most script tick ≡ false → IsBatch most script tick batch
+        → is_limited_by most script (tick + 1) ≡ nat_lt (most - length (admitted_by most script tick)) (length batch) }
+    ensures begins { (most : ℕ) (script : Script) (tick : ℕ) → tick ≤ script.ticks → Begins (admitted_by most script tick) (admitted_to most script) }
+    ensures stays { (most : ℕ) (script : Script) (tick : ℕ) → tick ≤ script.ticks → is_limited_by most script tick ≡ true
+        → (admitted_to most script ≡ admitted_by most script tick) × (is_limited_to most script ≡ true) }
+    ensures ticks { (most : ℕ) (script : Script) (tick : ℕ) → Each (λ (ext : Ext). ext.tick ≤ tick) (admitted_by most script tick) }
+    ensures known { (most : ℕ) (script : Script) (tick : ℕ) → IsInRange script → Each (IsExtOf script) (admitted_by most script tick) }
+{}
+
+/// What a tick brings by messages and by changes that were asked for: computations of ticks before the last bring nothing,
+/// and one computation more brings what its own entries do. So no more is to be kept than what those of the last tick bring.
+pub fn a_tick_brings_what_the_last_one_sent()
+    ensures sent { (script : Script) (tick : ℕ) (exts : List Ext) (rans : List Ran) → Each (λ (ext : Ext). ext.tick + 1 < tick) exts
+        → by_each (sent_by script tick) exts rans ≡ [] }
+    ensures asked { (tick : ℕ) (exts : List Ext) (rans : List Ran) → Each (λ (ext : Ext). ext.tick + 1 < tick) exts
+        → by_each (asked_by tick) exts rans ≡ [] }
+    ensures one_more { (by : Ext → Entry → List Ext) (script : Script) (past : List Ext) (ext : Ext)
+        → by_each by (past ++ ext ∷ []) (serial script (past ++ ext ∷ [])).comps
+        ≡ by_each by past (serial script past).comps ++ flat_map (by ext) (ran_of script past ((serial script past).states ext.node.0) ext).world.entries }
 {}
 
 /// Where no node crashes and nothing is sent or asked for, a script admits its own items and nothing else, and its

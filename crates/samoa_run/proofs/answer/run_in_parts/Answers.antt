@@ -10,4 +10,7 @@ run_script-requires-clause-built g c =
 pub run_script-requires-clause-covers : goal.run_script-requires-clause-covers
 run_script-requires-clause-covers g c =
     let passes : is_built c.args.script.now ≡ true = cc in
-    built-covers c.args.script.now c.args.stock c.requires.in_range passes c.requires.stock
+    built-covers c.args.script.now c.args.stock c.requires.valid passes c.requires.stock
+
+pub run_script-requires-clause-in_range : goal.run_script-requires-clause-in_range
+run_script-requires-clause-in_range g c = c.requires.valid.in_range

@@ -10,7 +10,10 @@ run_script-requires-clause-built g c =
 pub run_script-requires-clause-covers : goal.run_script-requires-clause-covers
 run_script-requires-clause-covers g c =
     let passes : is_built c.args.script.now ≡ true = cc in
-    built-covers c.args.script.now c.args.stock c.requires.in_range passes c.requires.stock
+    built-covers c.args.script.now c.args.stock c.requires.valid passes c.requires.stock
 
 pub run_script-requires-clause-cells : goal.run_script-requires-clause-cells
-run_script-requires-clause-cells g c = omega (arith, few_needed c.args.script.now c.requires.in_range)
+run_script-requires-clause-cells g c = omega (arith, few_needed c.args.script.now c.requires.valid.in_range)
+
+pub run_script-requires-clause-in_range : goal.run_script-requires-clause-in_range
+run_script-requires-clause-in_range g c = c.requires.valid.in_range

@@ -1,6 +1,7 @@
 use Rattle.std.proofs.Common.{◌≡◌, ◌⊎◌, Result, Ok, Err, refl, sym, subst}
 use Rattle.samoa_model.specs.declared.script.Script.{Script}
 use Rattle.samoa_script.specs.declared.fault.ScriptFault.{ScriptFault}
+use Rattle.samoa_script.proofs.Held.{held_valid}
 use Rattle.samoa_run.specs.Readings.{IsFaultOf}
 use Rattle.samoa_run.specs.declared.status.Status.TheVariants.{SinkFailed, Memory}
 use Rattle.samoa_run.specs.Statuses.{number}
@@ -59,3 +60,6 @@ returns-in-Err-Memory-clause-written g c =
 pub returns-in-Err-clause-written : goal.returns-in-Err-clause-written
 returns-in-Err-clause-written g c =
     λ input found left reading. unread c.args.order found (g.K.Sink.written c.args.sink.now)
+
+pub treat-requires-clause-valid : goal.treat-requires-clause-valid
+treat-requires-clause-valid g c = held_valid _ _ c.in-Ok-read_script.ensures.ok

@@ -1,4 +1,5 @@
 use Rattle.std.proofs.Common.{◌≡◌, ◌-◌, ◌≤◌, ◌++◌, length, take, drop}
+use Rattle.samoa_run.specs.Gathering.{HasGathered}
 use Rattle.samoa_run.specs.Running.{AreTotals, later_text}
 use Rattle.samoa_run.proofs.text.push_comps.Given as goal
 
@@ -9,6 +10,8 @@ invariant-loop-totals g l = record {
   text : l.text.items ++ later_text l.script l.calls (take l.totals.comps l.core.exts) (drop l.totals.comps l.core.exts)
       ≡ l.initial.text.items ++ later_text l.script l.calls (take l.initial.totals.comps l.core.exts) (drop l.initial.totals.comps l.core.exts);
   counted : AreTotals l.script (take l.totals.comps l.core.exts) l.totals;
+  gathered : HasGathered l.script (take l.totals.comps l.core.exts) l.net;
+  tick : l.net.tick ≡ l.initial.net.tick;
 }
 
 abbrev pub decreases-loop-totals : goal.decreases-loop-totals

@@ -1,6 +1,7 @@
 use Rattle.std.proofs.Common.{◌≡◌, ◌+◌, ◌-◌, ◌≤◌, ◌++◌, length, take, count_by}
 use Rattle.samoa_serial.specs.Report.{entries_text, is_delivery, is_refusal}
-use Rattle.samoa_invariant.specs.Runs.{served_at}
+use Rattle.samoa_invariant.specs.Runs.{ext_at, served_at}
+use Rattle.samoa_run.specs.Gathering.{Gathers}
 use Rattle.samoa_run.proofs.text.push_entries.Given as goal
 
 abbrev pub invariant-loop-entry : goal.invariant-loop-entry
@@ -11,6 +12,8 @@ invariant-loop-entry g l =
       comps : l.totals.comps ≡ l.initial.totals.comps;
       deliveries : l.totals.deliveries ≡ l.initial.totals.deliveries + count_by is_delivery (take l.at entries);
       refusals : l.totals.refusals ≡ l.initial.totals.refusals + count_by is_refusal (take l.at entries);
+      gathered : Gathers l.script (ext_at l.core.exts (l.comp - 1)) (take l.at entries) l.initial.net l.net;
+      next : l.net.comp ≤ l.comp;
     }
 
 abbrev pub decreases-loop-entry : goal.decreases-loop-entry

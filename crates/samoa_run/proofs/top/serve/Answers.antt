@@ -1,10 +1,10 @@
-use Rattle.std.proofs.Common.{◌≡◌, ℕ, true, Some, subst, sym}
+use Rattle.std.proofs.Common.{◌≡◌, ℕ, true, subst, sym}
 use Rattle.samoa_run.specs.declared.words.Order.{Order}
 use Rattle.samoa_run.specs.declared.words.Order.TheVariants.{Run}
-use Rattle.samoa_serial.specs.Report.{report}
+use Rattle.samoa_serial.specs.LimitedReport.{report_in_full}
 use Rattle.samoa_run.specs.Statuses.{number}
 use Rattle.samoa_run.specs.Serving.{Answers, AnswersOne}
-use Rattle.samoa_run.specs.Due.{IsOutput, can_do}
+use Rattle.samoa_run.specs.Due.{IsOutput, can_do, done_status, run_status}
 use Rattle.samoa_run.proofs.Runnable.{can_run_in}
 use Rattle.samoa_run.proofs.Served.{the_one}
 use Rattle.samoa_run.proofs.top.serve.Goals as goal
@@ -14,6 +14,6 @@ returns-in-Some-clause-report g c =
     λ input script cells calls words left held ready enough.
     let same : c.in-Some.order ≡ Run cells calls = cc in
     let P : Order → Type 0 = λ order. can_do order script ≡ true
-    → AnswersOne 0 (IsOutput order script) (g.K.Sink.written c.args.sink.now) (g.K.Sink.written c.obey.new.sink) (number c.obey.result) in
-    let S : ℕ → Type 0 = Answers 0 (report script calls) (g.K.Sink.written c.args.sink.now) (g.K.Sink.written c.obey.new.sink) in
-    subst S (sym c.number.ensures) (the_one (report script calls) (subst P same (c.obey.ensures.done input script left held) (can_run_in script cells calls ready enough)))
+    → AnswersOne (done_status order script) (IsOutput order script) (g.K.Sink.written c.args.sink.now) (g.K.Sink.written c.obey.new.sink) (number c.obey.result) in
+    let S : ℕ → Type 0 = Answers (run_status script) (report_in_full script calls) (g.K.Sink.written c.args.sink.now) (g.K.Sink.written c.obey.new.sink) in
+    subst S (sym c.number.ensures) (the_one (report_in_full script calls) (subst P same (c.obey.ensures.done input script left held) (can_run_in script cells calls ready enough)))

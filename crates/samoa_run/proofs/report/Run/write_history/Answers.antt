@@ -1,72 +1,72 @@
-use Rattle.std.proofs.Common.{◌≡◌, ◌+◌, ◌∙◌, List, [], ap, arith, subst, sym}
-use Rattle.std.proofs.KnownBytes.{Appends-nil}
+use Rattle.std.proofs.Common.{◌≡◌, ◌+◌, ◌∙◌, List, [], arith, subst, sym, true}
 use Rattle.std.specs.Io.KnownBytes.{Appends}
 use Rattle.samoa_model.specs.declared.record.Ext.{Ext}
-use Rattle.samoa_serial.proofs.HistoryLaws.{history_to-none}
+use Rattle.samoa_serial.specs.Ticks.{is_limited_by, most_admitted}
+use Rattle.samoa_serial.proofs.LimitLaws.{admitted_by-none, is_limited_by-none}
+use Rattle.samoa_run.specs.Gathering.{HasGathered}
 use Rattle.samoa_run.specs.Running.{HasRun, later_text}
-use Rattle.samoa_run.specs.Schedule.{of_tick}
-use Rattle.samoa_run.proofs.Histories.{IsNext, all_ticks, own_exts, batch_few, batch_named, has_run-batch, items_late, wrote_batch, wrote_batch_in_part}
-use Rattle.samoa_run.proofs.LaterText.{later_text-none}
+use Rattle.samoa_run.proofs.Histories.{last_admits, last_limits, limit_admits, limit_limits, wrote_none, wrote_tick, wrote_tick_in_part}
 use Rattle.samoa_run.proofs.Parts.{on_err}
-use Rattle.samoa_run.proofs.Remaining.{Remains, first_of_tick, remains_all, remains_next}
 use Rattle.samoa_run.proofs.report.Run.write_history.Goals as goal
 
 pub loop-before-init : goal.loop-before-init
 loop-before-init g c =
     let script = c.args.script.now in
-    let W : List _ → Type 0 = Appends (g.K.Sink.written c.args.sink.now) (g.K.Sink.written c.args.sink.now) in
     let H : List Ext → Type 0 = λ past. HasRun script past c.args.self.now.core c.args.self.now.totals in
+    let G : List Ext → Type 0 = λ past. HasGathered script past c.args.self.now.net in
     record {
-      written = subst W (sym (ap (later_text script c.args.calls []) (history_to-none script) ∙ later_text-none script c.args.calls [])) (Appends-nil _);
+      written = wrote_none script c.args.calls (g.K.Sink.written c.args.sink.now);
       later = omega arith;
-      has_run = subst H (sym (history_to-none script)) c.requires.has_run;
-      remains = remains_all (own_exts script) c.args.exts.now c.requires.by_tick (items_late script c.requires.in_range);
+      free = is_limited_by-none most_admitted script;
+      has_run = subst H (sym (admitted_by-none most_admitted script)) c.requires.has_run;
+      gathered = subst G (sym c.requires.has_run.exts) c.requires.gathered;
+      tick = c.requires.tick;
     }
 
-pub write_batch-requires-clause-named : goal.write_batch-requires-clause-named
-write_batch-requires-clause-named g c =
-    let before = c.loop-before.before in
-    let items : c.split_at.result.0.now ≡ of_tick (before + 1) (own_exts c.args.script.now)
-    = c.split_at.ensures.front ∙ first_of_tick _ _ before c.count_of_tick.result c.loop-before.invariant.remains c.count_of_tick.ensures.before c.count_of_tick.ensures.next in
-    batch_named c.args.script.now before c.split_at.result.0.now c.requires.in_range items
+pub returns-in_err-write_tick-clause-part : goal.returns-in_err-write_tick-clause-part
+returns-in_err-write_tick-clause-part g c =
+    on_err c.from_residual.result
+    (wrote_tick_in_part c.args.script.now c.args.calls c.loop-before.before c.loop-before.self.core.exts _ _ _ (omega arith) c.loop-before.invariant.has_run.exts
+    c.loop-before.invariant.written c.in_err-write_tick.ensures.part)
 
-pub write_batch-requires-clause-few : goal.write_batch-requires-clause-few
-write_batch-requires-clause-few g c =
-    let before = c.loop-before.before in
-    let items : c.split_at.result.0.now ≡ of_tick (before + 1) (own_exts c.args.script.now)
-    = c.split_at.ensures.front ∙ first_of_tick _ _ before c.count_of_tick.result c.loop-before.invariant.remains c.count_of_tick.ensures.before c.count_of_tick.ensures.next in
-    batch_few c.args.script.now before c.loop-before.self.core.exts c.split_at.result.0.now c.requires.in_range (c.loop-before.invariant.has_run.exts, items)
+pub returns-then-branch-clause-limited : goal.returns-then-branch-clause-limited
+returns-then-branch-clause-limited g c =
+    limit_limits c.args.script.now c.loop-before.before (omega arith) (sym c.in_ok-write_tick.ensures.limited ∙ c.if-branch.true)
 
-pub returns-in_err-write_batch-clause-part : goal.returns-in_err-write_batch-clause-part
-returns-in_err-write_batch-clause-part g c =
-    let before = c.loop-before.before in
-    let items : c.split_at.result.0.now ≡ of_tick (before + 1) (own_exts c.args.script.now)
-    = c.split_at.ensures.front ∙ first_of_tick _ _ before c.count_of_tick.result c.loop-before.invariant.remains c.count_of_tick.ensures.before c.count_of_tick.ensures.next in
-    on_err c.from_residual.result (wrote_batch_in_part c.args.script.now c.args.calls before c.loop-before.self.core.exts c.split_at.result.0.now _ _ _ (omega arith) (c.loop-before.invariant.has_run.exts, items)
-    c.loop-before.invariant.written c.in_err-write_batch.ensures.part)
+pub returns-then-branch-clause-all : goal.returns-then-branch-clause-all
+returns-then-branch-clause-all g c =
+    let passed : is_limited_by most_admitted c.args.script.now (c.loop-before.before + 1) ≡ true = sym c.in_ok-write_tick.ensures.limited ∙ c.if-branch.true in
+    let P : List Ext → Type 0 = λ exts. Appends (g.K.Sink.written c.args.sink.now) (g.K.Sink.written c.write_tick.new.sink) (later_text c.args.script.now c.args.calls [] exts) in
+    subst P (limit_admits c.args.script.now c.loop-before.before (omega arith) passed)
+    (wrote_tick c.args.script.now c.args.calls c.loop-before.before c.loop-before.self.core.exts _ _ _ c.loop-before.invariant.has_run.exts
+    c.loop-before.invariant.written c.in_ok-write_tick.ensures.all)
+
+pub returns-then-branch-clause-has_run : goal.returns-then-branch-clause-has_run
+returns-then-branch-clause-has_run g c =
+    let passed : is_limited_by most_admitted c.args.script.now (c.loop-before.before + 1) ≡ true = sym c.in_ok-write_tick.ensures.limited ∙ c.if-branch.true in
+    let H : List Ext → Type 0 = λ exts. HasRun c.args.script.now exts c.write_tick.new.self.core c.write_tick.new.self.totals in
+    subst H (limit_admits c.args.script.now c.loop-before.before (omega arith) passed) c.in_ok-write_tick.ensures.has_run
 
 pub loop-before-preserved : goal.loop-before-preserved
-loop-before-preserved g c =
-    let before = c.loop-before.before in
-    let items : c.split_at.result.0.now ≡ of_tick (before + 1) (own_exts c.args.script.now)
-    = c.split_at.ensures.front ∙ first_of_tick _ _ before c.count_of_tick.result c.loop-before.invariant.remains c.count_of_tick.ensures.before c.count_of_tick.ensures.next in
-    let next : IsNext c.args.script.now before c.loop-before.self.core.exts c.split_at.result.0.now = (c.loop-before.invariant.has_run.exts, items) in
-    let R : List Ext → Type 0 = λ rest. Remains (own_exts c.args.script.now) (before + 1) rest in
-    record {
-      written = wrote_batch c.args.script.now c.args.calls before c.loop-before.self.core.exts c.split_at.result.0.now _ _ _ next c.loop-before.invariant.written c.in_ok-write_batch.ensures.all;
-      later = omega (arith, c.loop-before.invariant.later, c.write_batch.ensures.cause.later);
-      has_run = has_run-batch c.args.script.now before c.loop-before.self.core.exts c.split_at.result.0.now _ _ next c.in_ok-write_batch.ensures.has_run;
-      remains = subst R (sym c.split_at.ensures.back) (remains_next _ _ before c.count_of_tick.result c.loop-before.invariant.remains c.count_of_tick.ensures.before c.count_of_tick.ensures.next);
-    }
+loop-before-preserved g c = record {
+  written = wrote_tick c.args.script.now c.args.calls c.loop-before.before c.loop-before.self.core.exts _ _ _ c.loop-before.invariant.has_run.exts
+      c.loop-before.invariant.written c.in_ok-write_tick.ensures.all;
+  later = omega (arith, c.loop-before.invariant.later, c.write_tick.ensures.cause.later);
+  free = sym c.in_ok-write_tick.ensures.limited ∙ c.if-branch.false;
+  has_run = c.in_ok-write_tick.ensures.has_run;
+  gathered = c.in_ok-write_tick.ensures.gathered;
+  tick = c.in_ok-write_tick.ensures.tick;
+}
+
+pub returns-clause-limited : goal.returns-clause-limited
+returns-clause-limited g c = last_limits c.args.script.now c.loop-before.before (omega arith) c.loop-before.invariant.free
 
 pub returns-clause-all : goal.returns-clause-all
 returns-clause-all g c =
-    let last : c.loop-before.before ≡ c.args.script.now.ticks = omega arith in
     let P : List Ext → Type 0 = λ exts. Appends (g.K.Sink.written c.args.sink.now) (g.K.Sink.written c.loop-before.sink) (later_text c.args.script.now c.args.calls [] exts) in
-    subst P (all_ticks c.args.script.now c.loop-before.before last) c.loop-before.invariant.written
+    subst P (last_admits c.args.script.now c.loop-before.before (omega arith)) c.loop-before.invariant.written
 
 pub returns-clause-has_run : goal.returns-clause-has_run
 returns-clause-has_run g c =
-    let last : c.loop-before.before ≡ c.args.script.now.ticks = omega arith in
     let H : List Ext → Type 0 = λ exts. HasRun c.args.script.now exts c.loop-before.self.core c.loop-before.self.totals in
-    subst H (all_ticks c.args.script.now c.loop-before.before last) c.loop-before.invariant.has_run
+    subst H (last_admits c.args.script.now c.loop-before.before (omega arith)) c.loop-before.invariant.has_run

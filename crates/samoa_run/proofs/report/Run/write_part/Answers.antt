@@ -1,4 +1,4 @@
-use Rattle.std.proofs.Common.{◌≡◌, ◌∙◌, List, map, subst, take}
+use Rattle.std.proofs.Common.{◌≡◌, ◌∙◌, List, subst, take}
 use Rattle.samoa_ends.specs.Pieces.{AppendsPrefix}
 use Rattle.samoa_run.specs.Running.{later_text}
 use Rattle.samoa_run.proofs.Batches.{first_part}
