@@ -2,16 +2,11 @@
 //! are enough for, and writes its report, and then all steps that were made, one a line. It serves to compare journals.
 #![tactic(auto)]
 
-ghost use Rattle.std.specs.Prelude.{◌≡◌, ◌≤◌, true, map, All, IfOk};
-ghost use Rattle.samoa_model.specs.declared.setup.Kind.TheVariants.{Prog as ProgKind};
-ghost use Rattle.samoa_micro.specs.Covers.{count_of};
-
 use itoa::Buffer;
 use samoa_ends::{Sink, Source, StdSink, StdSource};
-use samoa_micro::{Micro, Stock};
+use samoa_kinds::full_stock;
 use samoa_model::{NoMemory, Step};
-use samoa_prog::Prog;
-use samoa_run::{CELLS, Stop, built, read_input, run_script};
+use samoa_run::{CELLS, Stop, read_input, run_script};
 use samoa_script::read_script;
 use std::alloc::Global;
 use std::io;
@@ -24,7 +19,7 @@ fn main(rt: HostRuntime) -> ExitCode {
     ExitCode::from(run(alloc, &mut source, &mut sink))
 }
 
-/// Writes the report and the journal, and answers the status: 3 for what is no script or can't run yet, and 8 where the
+/// Writes the report and the journal, and answers the status: 3 for what is no script, and 8 where the
 /// limit of computations ended the run.
 fn run<S: Source, K: Sink>(alloc: Global, source: &mut S, sink: &mut K) -> u8 {
     match write_run(alloc, source, sink) {
@@ -36,8 +31,8 @@ fn run<S: Source, K: Sink>(alloc: Global, source: &mut S, sink: &mut K) -> u8 {
     }
 }
 
-/// Writes the report and the journal, and answers whether the limit of computations ended the run. None for what is no
-/// script or can't run yet.
+/// Writes the report and the journal, and answers whether the limit of computations ended the run. None for what is
+/// no script.
 fn write_run<S: Source, K: Sink>(
     alloc: Global,
     source: &mut S,
@@ -47,26 +42,11 @@ fn write_run<S: Source, K: Sink>(
     let Ok(script) = read_script(alloc, &bytes) else {
         return Ok(None);
     };
-    if !built(&script) {
-        return Ok(None);
-    }
-    let stock = Stock::new(boxes(alloc)?);
+    let stock = full_stock(alloc)?;
     let finished = run_script(alloc, &script, stock, CELLS, false, false, sink)?;
     let text = journal_text(alloc, finished.core.journal())?;
     write_all(&text, sink)?;
     Ok(Some(finished.limited))
-}
-
-/// As many scripted microprotocols as a script can take.
-fn boxes(alloc: Global) -> Result<Vec<Prog>, NoMemory>
-    ensures fresh { IfOk result (λ boxes. All (λ b. (⟦<Prog as Micro>⟧.seen b).fresh ≡ true) boxes.items) }
-    ensures enough { IfOk result (λ boxes. 32 ≤ count_of (map (λ b. (⟦<Prog as Micro>⟧.seen b).kind) boxes.items) ProgKind) }
-{
-    let mut boxes = Vec::new(alloc);
-    while boxes.len() < 32 {
-        boxes.push(Prog::new(alloc))?;
-    }
-    Ok(boxes)
 }
 
 /// `J` and the number of steps, and then the steps.

@@ -1,15 +1,13 @@
 //! The top call over sources and sinks in memory, of which some fail.
-ghost use Rattle.std.specs.Prelude.{◌≡◌, ◌≤◌, true, map, All, IfOk};
-ghost use Rattle.samoa_model.specs.declared.setup.Kind.TheVariants.{Prog as ProgKind};
-ghost use Rattle.samoa_micro.specs.Covers.{count_of};
+ghost use Rattle.std.specs.Prelude.{◌≡◌, true, map, All, IfOk};
+ghost use Rattle.samoa_micro.specs.Stocks.{HasEnough};
 
-use crate::serve_boxes;
 use samoa_ends::{MemSink, MemSource};
-use samoa_micro::Micro;
+use samoa_kinds::{AnyKind, full_boxes};
+use samoa_micro::{Micro, Stock};
 use samoa_model::{Kind, Moment, NoMemory, Outcome, Setup, Words};
-use samoa_prog::Prog;
+use samoa_run::{NoGate, serve};
 use std::alloc::Global;
-use std::marker::Send;
 use std::sync::Wait;
 use std::test::Fail;
 use std::thread::Threads;
@@ -25,22 +23,22 @@ const LINES: [&str; 5] = [
     "N 1 1 0\n",
 ];
 
-/// A scripted microprotocol that makes so many handler steps, and finds no memory for the next.
+/// A microprotocol that makes so many handler steps, and finds no memory for the next.
 #[derive(Drop)]
 struct Faint {
-    prog: Prog,
+    micro: AnyKind,
     left: u32,
 }
 
 impl Micro for Faint {
-    ghost seen = { λ f. ⟦<Prog as Micro>⟧.seen f.prog };
+    ghost seen = { λ f. ⟦<AnyKind as Micro>⟧.seen f.micro };
 
     fn kind(&self) -> Kind {
-        self.prog.kind()
+        self.micro.kind()
     }
 
     fn set_up(&mut self, alloc: Global, setup: &Setup) -> Result<(), NoMemory> {
-        self.prog.set_up(alloc, setup)
+        self.micro.set_up(alloc, setup)
     }
 
     fn step(&mut self, alloc: Global, moment: &Moment) -> Result<Outcome, NoMemory> {
@@ -48,27 +46,24 @@ impl Micro for Faint {
             return Err(NoMemory);
         }
         self.left -= 1;
-        self.prog.step(alloc, moment)
+        self.micro.step(alloc, moment)
     }
 
     fn show(&self) -> Words {
-        self.prog.show()
+        self.micro.show()
     }
 }
 
 /// As many microprotocols as a script can take, each of which makes so many handler steps.
 fn boxes(alloc: Global, steps: u32) -> Result<Vec<Faint>, NoMemory>
     ensures fresh { IfOk result (λ boxes. All (λ b. (⟦<Faint as Micro>⟧.seen b).fresh ≡ true) boxes.items) }
-    ensures enough { IfOk result (λ boxes. 32 ≤ count_of (map (λ b. (⟦<Faint as Micro>⟧.seen b).kind) boxes.items) ProgKind) }
+    ensures enough { IfOk result (λ boxes. HasEnough (map (λ b. (⟦<Faint as Micro>⟧.seen b).kind) boxes.items)) }
 {
-    let mut boxes = Vec::new(alloc);
-    while boxes.len() < 32 {
-        boxes.push(Faint {
-            prog: Prog::new(alloc),
-            left: steps,
-        })?;
+    let mut faint = Vec::new(alloc);
+    for micro in full_boxes(alloc)? {
+        faint.push(Faint { micro, left: steps })?;
     }
-    Ok(boxes)
+    Ok(faint)
 }
 
 /// More handler steps than a test makes.
@@ -92,8 +87,9 @@ fn answer<R: Wait + Threads + Sync>(
     let bytes = Vec::from_slice(alloc, input.as_bytes())?;
     let mut source = MemSource::new(bytes, Vec::from_slice(alloc, reads)?);
     let mut sink = MemSink::new(alloc, 4096, Vec::from_slice(alloc, writes)?)?;
-    let boxes = boxes(alloc, steps)?;
-    let status = serve_boxes(rt, alloc, &asked, &mut source, &mut sink, boxes);
+    let stock = Stock::new(boxes(alloc, steps)?);
+    let gate = NoGate::new();
+    let status = serve(rt, alloc, &asked, &mut source, &mut sink, stock, &gate);
     Ok((status, Vec::from_slice(alloc, sink.bytes())?))
 }
 

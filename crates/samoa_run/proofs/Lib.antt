@@ -1,5 +1,4 @@
 pub mod Batches
-pub mod Boxes
 pub mod Closing
 pub mod EntryBound
 pub mod EntrySteps

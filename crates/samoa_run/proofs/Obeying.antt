@@ -10,7 +10,7 @@ use Rattle.samoa_run.specs.declared.status.Status.{Status}
 use Rattle.samoa_run.specs.declared.status.Status.TheVariants.{Done, Refused, SourceFailed, SinkFailed, Memory, Limited}
 use Rattle.samoa_run.specs.declared.words.Order.{Order}
 use Rattle.samoa_run.specs.Statuses.{number}
-use Rattle.samoa_run.specs.Due.{IsAnswerTo, IsTreated, can_do, done_status, due_status, fault_line, status_if, turned_away_line}
+use Rattle.samoa_run.specs.Due.{IsAnswerTo, IsTreated, has_cells, done_status, due_status, fault_line, status_if, turned_away_line}
 use Rattle.samoa_run.specs.Serving.{AnswersOne, Ends, IsDueOrFailed, IsRefused, faulty, turned_away, NoFault, Obeys}
 use Rattle.samoa_run.proofs.Served.{done_ends, number-same, the_one}
 
@@ -32,7 +32,7 @@ refused_if_not true order script h = absurd (not_refused order script (done_ends
 refused_if_not false order script h = refl
 
 refused_so : (order : Order) (input : List ℕ) (found : Result Script ScriptFault) → IsReading input found → due_status order found ≡ number Refused → IsRefused order input
-refused_so order input (Ok script) held is = turned_away script held (refused_if_not (can_do order script) order script is)
+refused_so order input (Ok script) held is = turned_away script held (refused_if_not (has_cells order script) order script is)
 refused_so order input (Err fault) fails is = faulty fault fails
 
 -- where no count rose, the due status or want of memory

@@ -18,7 +18,7 @@ use Rattle.samoa_run.specs.Statuses.{number}
 use Rattle.samoa_run.specs.declared.words.Order.TheVariants.{Run, Serial, Check}
 use Rattle.samoa_serial.specs.LimitedReport.{report_in_full}
 use Rattle.samoa_serial.specs.Ticks.{is_limited}
-use Rattle.samoa_run.specs.Due.{IsAnswerTo, IsOutput, IsTreated, can_do, canonical_text, done_status, due_status, fault_line, is_memory, status_if, status_of_run, turned_away_line}
+use Rattle.samoa_run.specs.Due.{IsAnswerTo, IsOutput, IsTreated, has_cells, canonical_text, done_status, due_status, fault_line, is_memory, status_if, status_of_run, turned_away_line}
 use Rattle.samoa_run.specs.Serving.{Answers, AnswersOne, IsDueOrFailed}
 
 -- what was read is the input, where that is no longer than the limit
@@ -156,13 +156,13 @@ the_one {old = old} {new = new} text answers =
     }
 
 -- a script that can be treated as ordered, and one that can't
-pub treats : (order : Order) (script : Script) {old new : Option (List ℕ)} {status : ℕ} (text : List ℕ) → can_do order script ≡ true → IsOutput order script text
+pub treats : (order : Order) (script : Script) {old new : Option (List ℕ)} {status : ℕ} (text : List ℕ) → has_cells order script ≡ true → IsOutput order script text
     → Answers (done_status order script) text old new status → AnswersOne (due_status order (Ok script)) (IsAnswerTo order (Ok script)) old new status
 treats order script {old = old} {new = new} {status = status} text can is answers =
     let F : Bool → Type 0 = λ b. AnswersOne (status_if b order script) (IsTreated b order script) old new status in
     subst F (sym can) (one_of text is answers)
 
-pub turns_away : (order : Order) (script : Script) {old new : Option (List ℕ)} {status : ℕ} (text : List ℕ) → can_do order script ≡ false → text ≡ turned_away_line order script
+pub turns_away : (order : Order) (script : Script) {old new : Option (List ℕ)} {status : ℕ} (text : List ℕ) → has_cells order script ≡ false → text ≡ turned_away_line order script
     → Answers (number Refused) text old new status → AnswersOne (due_status order (Ok script)) (IsAnswerTo order (Ok script)) old new status
 turns_away order script {old = old} {new = new} {status = status} text can is answers =
     let F : Bool → Type 0 = λ b. AnswersOne (status_if b order script) (IsTreated b order script) old new status in
@@ -193,7 +193,7 @@ some_treated true order script = some_output order script
 some_treated false order script = (turned_away_line order script, refl)
 
 some_answer : (order : Order) (found : Result Script ScriptFault) → (text : List ℕ) × IsAnswerTo order found text
-some_answer order (Ok script) = some_treated (can_do order script) order script
+some_answer order (Ok script) = some_treated (has_cells order script) order script
 some_answer order (Err fault) = (fault_line fault, refl)
 
 -- a run ends with 8 or 0
@@ -216,7 +216,7 @@ due_if true order script six = not_six order script (done_ends order script) six
 due_if false order script six = omega (arith, six)
 
 due_other : (order : Order) (found : Result Script ScriptFault) → due_status order found ≡ 6 → ⊥
-due_other order (Ok script) six = due_if (can_do order script) order script six
+due_other order (Ok script) six = due_if (has_cells order script) order script six
 due_other order (Err fault) six = omega (arith, six)
 
 nothing_yet : (old : Option (List ℕ)) (text : List ℕ) → AppendsPrefix old old text

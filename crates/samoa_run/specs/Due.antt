@@ -1,5 +1,5 @@
 -- What is due for an order: what is to be written, and with which status.
-use Rattle.std.specs.Prelude.{◌≡◌, ℕ, ◌++◌, Bool, true, false, ◌&&◌, List, nat_le, codes, decimal, Result, Ok, Err, if◌then◌else◌}
+use Rattle.std.specs.Prelude.{◌≡◌, ℕ, ◌++◌, Bool, true, false, List, [], nat_le, codes, decimal, Result, Ok, Err, if◌then◌else◌}
 use Rattle.samoa_model.specs.declared.script.Script.{Script}
 use Rattle.samoa_model.specs.Cells.{need}
 use Rattle.samoa_serial.specs.LimitedReport.{report_in_full}
@@ -15,21 +15,11 @@ use Rattle.samoa_run.specs.declared.stop.Stop.TheVariants as stops
 use Rattle.samoa_run.specs.declared.status.Status.TheVariants as statuses
 use Rattle.samoa_run.specs.declared.status.Status.TheVariants.{Done, Refused, SinkFailed, Limited}
 use Rattle.samoa_run.specs.Statuses.{number}
-use Rattle.samoa_run.specs.Built.{is_built}
-
--- whether a script that is held can be treated as ordered by now
-abbrev pub can_run : Order → Script → Bool
-can_run (Run cells calls) script = is_built script
-can_run (Serial calls) script = is_built script
-can_run Check script = true
 
 -- whether the cells that are given are enough for it
 abbrev pub has_cells : Order → Script → Bool
 has_cells (Run cells calls) script = nat_le (need script) cells
 has_cells _ script = true
-
-abbrev pub can_do : Order → Script → Bool
-can_do order script = can_run order script && has_cells order script
 
 abbrev pub canonical_text : Script → List ℕ
 canonical_text script = compact_text (tree_of script) ++ codes "\n"
@@ -40,17 +30,14 @@ IsOutput (Run cells calls) script text = text ≡ report_in_full script calls
 IsOutput (Serial calls) script text = text ≡ report_in_full script calls
 IsOutput Check script text = text ≡ canonical_text script
 
-abbrev pub not_yet_line : List ℕ
-not_yet_line = codes "! script NotYet\n"
-
 -- the cells that are given, and those that are needed
 abbrev pub few_cells : ℕ → ℕ → List ℕ
 few_cells cells needed = codes "! cells " ++ (decimal cells ++ (codes " " ++ (decimal needed ++ codes "\n")))
 
--- what is written for a script that can't be treated as ordered
+-- what is written for a script for which the cells aren't enough; other orders have none
 abbrev pub turned_away_line : Order → Script → List ℕ
-turned_away_line (Run cells calls) script = if is_built script then few_cells cells (need script) else not_yet_line
-turned_away_line _ script = not_yet_line
+turned_away_line (Run cells calls) script = few_cells cells (need script)
+turned_away_line _ script = []
 
 abbrev pub is_memory : ScriptFault → Bool
 is_memory Memory = true
@@ -83,7 +70,7 @@ done_status (Run cells calls) script = run_status script
 done_status (Serial calls) script = run_status script
 done_status Check script = number Done
 
--- the status that is due for a script, where it can be treated as ordered or not, and what may be written then
+-- the status that is due for a script, where the cells are enough or not, and what may be written then
 abbrev pub status_if : Bool → Order → Script → ℕ
 status_if true order script = done_status order script
 status_if false order script = number Refused
@@ -94,11 +81,11 @@ IsTreated false order script text = text ≡ turned_away_line order script
 
 -- the status that is due for what was read, and what may be written
 abbrev pub due_status : Order → Result Script ScriptFault → ℕ
-due_status order (Ok script) = status_if (can_do order script) order script
+due_status order (Ok script) = status_if (has_cells order script) order script
 due_status order (Err fault) = number Refused
 
 abbrev pub IsAnswerTo : Order → Result Script ScriptFault → List ℕ → Type 0
-IsAnswerTo order (Ok script) text = IsTreated (can_do order script) order script text
+IsAnswerTo order (Ok script) text = IsTreated (has_cells order script) order script text
 IsAnswerTo order (Err fault) text = text ≡ fault_line fault
 
 -- the status that a run ends with, of which it is known whether the limit ended it

@@ -1,5 +1,4 @@
 pub mod Statuses
-pub mod Built
 pub mod Words
 pub mod Due
 pub mod Gathering

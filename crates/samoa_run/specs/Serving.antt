@@ -11,7 +11,7 @@ use Rattle.samoa_run.specs.declared.words.Order.{Order}
 use Rattle.samoa_run.specs.declared.reading.TheConstants.{LIMIT}
 use Rattle.samoa_run.specs.declared.status.Status.TheVariants.{Done, Refused, SourceFailed, SinkFailed, Memory, Limited}
 use Rattle.samoa_run.specs.Statuses.{number}
-use Rattle.samoa_run.specs.Due.{IsOutput, can_do, done_status, turned_away_line, fault_line}
+use Rattle.samoa_run.specs.Due.{IsOutput, has_cells, done_status, turned_away_line, fault_line}
 use Rattle.samoa_run.specs.declared.stop.Stop.{Stop}
 use Rattle.samoa_run.specs.declared.stop.Stop.TheVariants.{Failed}
 
@@ -53,10 +53,10 @@ pub record AnswersOne (due : ℕ) (meant : List ℕ → Type 0) (old new : Optio
   pub source_failed : status ≡ number SourceFailed → Appends old new []
   pub no_other : IsDueOrFailed due status
 
--- an input that is refused: it has a fault, or what it holds can't be treated as ordered
+-- an input that is refused: it has a fault, or the cells aren't enough for the script that it holds
 pub data IsRefused (order : Order) (input : List ℕ) : Type 0 where
   faulty : (fault : ScriptFault) → IsFaultOf input fault → IsRefused order input
-  turned_away : (script : Script) → Holds input script → can_do order script ≡ false → IsRefused order input
+  turned_away : (script : Script) → Holds input script → has_cells order script ≡ false → IsRefused order input
 
 -- an end of the work: what source and sink tell before and after, and their counts of faults
 pub record Ends : Type 0 where
@@ -76,14 +76,14 @@ pub record NoFault (ends : Ends) : Type 0 where
 
 -- an order was carried out with this status
 pub record Obeys (order : Order) (ends : Ends) (status : ℕ) : Type 0 where
-  pub done : (input : List ℕ) (script : Script) → ends.left ≡ Some input → Holds input script → can_do order script ≡ true
+  pub done : (input : List ℕ) (script : Script) → ends.left ≡ Some input → Holds input script → has_cells order script ≡ true
       → AnswersOne (done_status order script) (IsOutput order script) ends.written ends.written_after status
-  pub turned_away : (input : List ℕ) (script : Script) → ends.left ≡ Some input → Holds input script → can_do order script ≡ false
+  pub turned_away : (input : List ℕ) (script : Script) → ends.left ≡ Some input → Holds input script → has_cells order script ≡ false
       → Answers (number Refused) (turned_away_line order script) ends.written ends.written_after status
   pub refused : (input : List ℕ) (fault : ScriptFault) → ends.left ≡ Some input → IsFaultOf input fault
       → Answers (number Refused) (fault_line fault) ends.written ends.written_after status
   pub refused_only : (input : List ℕ) → ends.left ≡ Some input → status ≡ number Refused → IsRefused order input
-  pub complete : (input : List ℕ) (script : Script) → ends.left ≡ Some input → Holds input script → can_do order script ≡ true
+  pub complete : (input : List ℕ) (script : Script) → ends.left ≡ Some input → Holds input script → has_cells order script ≡ true
       → NoFault ends → (status ≡ done_status order script) ⊎ (status ≡ number Memory)
   pub complete_refused : (input : List ℕ) → ends.left ≡ Some input → IsRefused order input
       → NoFault ends → (status ≡ number Refused) ⊎ (status ≡ number Memory)

@@ -1,15 +1,13 @@
 //! An order on what was read.
 ghost use Rattle.std.specs.Prelude.{◌≡◌, ◌≢◌, ◌≤◌, ◌<◌, ◌⊎◌, Ok, IfOk};
 ghost use Rattle.samoa_model.specs.Valid.{IsValid};
-ghost use Rattle.samoa_model.specs.declared.setup.Kind.TheVariants.{Prog};
 ghost use Rattle.samoa_ends.specs.Causes.{Rose};
-ghost use Rattle.samoa_micro.specs.Covers.{count_of};
+ghost use Rattle.samoa_micro.specs.Stocks.{HasEnough};
 ghost use Rattle.samoa_run.specs.Due.{IsAnswerTo, canonical_text, due_status, ended_with, fault_line as line_of, few_cells};
 ghost use Rattle.samoa_run.specs.Serving.{Answers, AnswersOne};
 ghost use Rattle.samoa_run.specs.Statuses.{number};
 
 use crate::fault::{cells_line, fault_line};
-use crate::ready::built;
 use crate::report::{Finished, run_script};
 use crate::status::Status;
 use crate::stop::Stop;
@@ -31,7 +29,7 @@ pub fn treat<K: Sink, B: Micro>(
     sink: &mut K,
 ) -> Status
     requires valid { IsValid script.now }
-    requires stock { 32 ≤ count_of stock Prog }
+    requires stock { HasEnough stock }
     ensures written { AnswersOne (due_status order (Ok script.now)) (IsAnswerTo order (Ok script.now)) (K.written sink.old) (K.written sink.new) (number result) }
     ensures statuses { (number result ≡ due_status order (Ok script.now)) ⊎ (result ≡ Status.SinkFailed) ⊎ (result ≡ Status.Memory) }
     ensures sink_failed { result ≡ Status.SinkFailed → Rose (K.faults sink.old) (K.faults sink.new) }
@@ -43,7 +41,7 @@ pub fn treat<K: Sink, B: Micro>(
     }
 }
 
-/// Writes the report of a script that can run by now, with so many cells for what is open at once.
+/// Writes the report of a script, with so many cells for what is open at once.
 fn run_in_parts<K: Sink, B: Micro>(
     alloc: Global,
     script: &Script,
@@ -53,14 +51,11 @@ fn run_in_parts<K: Sink, B: Micro>(
     sink: &mut K,
 ) -> Status
     requires valid { IsValid script.now }
-    requires stock { 32 ≤ count_of stock Prog }
+    requires stock { HasEnough stock }
     ensures written { AnswersOne (due_status (Order.Run cells calls) (Ok script.now)) (IsAnswerTo (Order.Run cells calls) (Ok script.now)) (K.written sink.old) (K.written sink.new) (number result) }
     ensures statuses { (number result ≡ due_status (Order.Run cells calls) (Ok script.now)) ⊎ (result ≡ Status.SinkFailed) ⊎ (result ≡ Status.Memory) }
     ensures sink_failed { result ≡ Status.SinkFailed → Rose (K.faults sink.old) (K.faults sink.new) }
 {
-    if !built(script) {
-        return write_text(b"! script NotYet\n", Status::Refused, sink);
-    }
     let needed = need(script);
     if cells < needed {
         return refuse_cells(alloc, cells, needed, sink);
@@ -68,7 +63,7 @@ fn run_in_parts<K: Sink, B: Micro>(
     status_of(run_script(alloc, script, stock, cells, false, calls, sink))
 }
 
-/// Writes the report of a script that can run by now, by one computation after another.
+/// Writes the report of a script, by one computation after another.
 fn run_one_by_one<K: Sink, B: Micro>(
     alloc: Global,
     script: &Script,
@@ -77,14 +72,11 @@ fn run_one_by_one<K: Sink, B: Micro>(
     sink: &mut K,
 ) -> Status
     requires valid { IsValid script.now }
-    requires stock { 32 ≤ count_of stock Prog }
+    requires stock { HasEnough stock }
     ensures written { AnswersOne (due_status (Order.Serial calls) (Ok script.now)) (IsAnswerTo (Order.Serial calls) (Ok script.now)) (K.written sink.old) (K.written sink.new) (number result) }
     ensures statuses { (number result ≡ due_status (Order.Serial calls) (Ok script.now)) ⊎ (result ≡ Status.SinkFailed) ⊎ (result ≡ Status.Memory) }
     ensures sink_failed { result ≡ Status.SinkFailed → Rose (K.faults sink.old) (K.faults sink.new) }
 {
-    if !built(script) {
-        return write_text(b"! script NotYet\n", Status::Refused, sink);
-    }
     status_of(run_script(alloc, script, stock, CELLS, true, calls, sink))
 }
 

@@ -6,7 +6,6 @@ mod fault;
 mod gate;
 mod obey;
 mod reading;
-mod ready;
 mod report;
 mod running;
 mod status;
@@ -19,7 +18,6 @@ mod writing;
 
 pub use gate::{Gate, NoGate};
 pub use reading::{LIMIT, read_input};
-pub use ready::built;
 pub use report::{Finished, run_script};
 pub use stop::Stop;
 pub use top::{check_only, serve, serve_serial};

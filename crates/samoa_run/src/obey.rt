@@ -2,11 +2,10 @@
 ghost use Rattle.std.specs.Prelude.{◌≡◌, ◌≢◌, ◌⊎◌, ◌≤◌, ℕ, List, Result, Some, length};
 ghost use Rattle.std.specs.Io.KnownBytes.{IsAtEnd};
 ghost use Rattle.samoa_model.specs.declared.script.Script.{Script as ScriptValue};
-ghost use Rattle.samoa_model.specs.declared.setup.Kind.TheVariants.{Prog};
 ghost use Rattle.samoa_ends.specs.Causes.{Rose};
 ghost use Rattle.samoa_script.specs.declared.fault.ScriptFault.{ScriptFault as Fault};
 ghost use Rattle.samoa_run.specs.Readings.{IsReading};
-ghost use Rattle.samoa_micro.specs.Covers.{count_of};
+ghost use Rattle.samoa_micro.specs.Stocks.{HasEnough};
 ghost use Rattle.samoa_run.specs.Due.{IsAnswerTo, due_status, is_memory as memory_is};
 ghost use Rattle.samoa_run.specs.Serving.{AnswersOne, IsDueOrFailed, Obeys};
 ghost use Rattle.samoa_run.specs.Statuses.{number};
@@ -29,7 +28,7 @@ pub fn obey<S: Source, K: Sink, B: Micro>(
     sink: &mut K,
     stock: Stock<B>,
 ) -> Status
-    requires { 32 ≤ count_of stock Prog }
+    requires { HasEnough stock }
     ensures { Obeys order
         (record { left = S.left source.old; left_after = S.left source.new; source_faults = S.faults source.old; source_faults_after = S.faults source.new; written = K.written sink.old; written_after = K.written sink.new; sink_faults = K.faults sink.old; sink_faults_after = K.faults sink.new })
         (number result) }
@@ -45,7 +44,7 @@ fn carry_out<S: Source, K: Sink, B: Micro>(
     sink: &mut K,
     stock: Stock<B>,
 ) -> Status
-    requires { 32 ≤ count_of stock Prog }
+    requires { HasEnough stock }
     ensures written { (input : List ℕ) (found : Result ScriptValue Fault) → S.left source.old ≡ Some input → IsReading input found
         → AnswersOne (due_status order found) (IsAnswerTo order found) (K.written sink.old) (K.written sink.new) (number result) }
     ensures complete { (input : List ℕ) (found : Result ScriptValue Fault) → S.left source.old ≡ Some input → IsReading input found

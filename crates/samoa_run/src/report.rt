@@ -2,7 +2,7 @@
 ghost use Rattle.std.specs.Prelude.{◌≡◌, ◌<◌, ◌≤◌, ◌+◌, ◌++◌, [], false, length, take, drop, All, IfOk, OnOk, OnErr, if◌then◌else◌};
 ghost use Rattle.std.specs.Io.KnownBytes.{Appends};
 ghost use Rattle.samoa_model.specs.Cells.{need};
-ghost use Rattle.samoa_model.specs.Range.{IsInRange, IsBuilt, IsExtOf};
+ghost use Rattle.samoa_model.specs.Range.{IsInRange, IsExtOf};
 ghost use Rattle.samoa_serial.specs.LimitedReport.{limit_text, report_in_full};
 ghost use Rattle.samoa_serial.specs.Ticks.{admitted, admitted_by, is_limited, is_limited_by, most_admitted};
 ghost use Rattle.samoa_ends.specs.Pieces.{AppendsPrefix};
@@ -55,7 +55,6 @@ impl<B: Micro> Run<B> {
         one_by_one: bool,
     ) -> Result<Run<B>, NoMemory>
         requires in_range { IsInRange script.now }
-        requires built { IsBuilt script.now }
         requires covers { Covers script.now stock }
         requires cells { need script.now ≤ cells }
         ensures has_run { IfOk result (λ run. HasRun script.now [] run.core run.totals) }
@@ -325,7 +324,6 @@ pub fn run_script<B: Micro, K: Sink>(
     sink: &mut K,
 ) -> Result<Finished<B>, Stop>
     requires in_range { IsInRange script.now }
-    requires built { IsBuilt script.now }
     requires covers { Covers script.now stock }
     requires cells { need script.now ≤ cells }
     ensures all { OnOk result (Appends (K.written sink.old) (K.written sink.new) (report_in_full script.now calls)) }

@@ -2,14 +2,12 @@
 ghost use Rattle.std.specs.Prelude.{◌≡◌, ◌≢◌, ◌⊎◌, ◌<◌, ◌≤◌, ℕ, List, Bool, None, true, length, map, codes, string_bytes, Some, option_and_then};
 ghost use Rattle.std.specs.Io.KnownBytes.{IsAtEnd};
 ghost use Rattle.samoa_model.specs.declared.script.Script.{Script as ScriptValue};
-ghost use Rattle.samoa_model.specs.declared.setup.Kind.TheVariants.{Prog};
 ghost use Rattle.samoa_model.specs.Cells.{need};
 ghost use Rattle.samoa_serial.specs.LimitedReport.{report_in_full};
 ghost use Rattle.samoa_ends.specs.Causes.{Rose};
 ghost use Rattle.samoa_grammar.specs.Held.{Holds};
-ghost use Rattle.samoa_micro.specs.Covers.{count_of};
+ghost use Rattle.samoa_micro.specs.Stocks.{HasEnough};
 ghost use Rattle.samoa_run.specs.declared.words.Order.{Order as OrderValue};
-ghost use Rattle.samoa_run.specs.Built.{is_built};
 ghost use Rattle.samoa_run.specs.Due.{run_status};
 ghost use Rattle.samoa_run.specs.Serving.{Answers, Obeys};
 ghost use Rattle.samoa_run.specs.Statuses.{number};
@@ -44,7 +42,7 @@ use std::thread::Threads;
 /// |---|---|---|
 /// | 0 | all was done and written, and the limit didn't end the run | the report, or the text |
 /// | 2 | the words are others | `! usage` |
-/// | 3 | the input has a fault, or can't run yet, or the cells are too few for it | the fault line |
+/// | 3 | the input has a fault, or the cells are too few for it | the fault line |
 /// | 4 | a read failed | nothing |
 /// | 5 | a write failed | a prefix of what was to be written |
 /// | 6 | there was no memory | a prefix of what was to be written |
@@ -60,14 +58,14 @@ pub fn serve<R: Wait + Threads + Sync, S: Source, K: Sink, G: Gate + Sync, B: Mi
     stock: Stock<B>,
     _gate: &G,
 ) -> u8
-    requires { 32 ≤ count_of stock Prog }
+    requires { HasEnough stock }
 
-    // The headline: the words ask for a run, the input holds a script that can run, and the cells are enough for it. What
+    // The headline: the words ask for a run, the input holds a script, and the cells are enough for it. What
     // is written is a prefix of the report of running all that it admits whole, one after another: its own events, the
     // messages and the changes that were asked for. All of it is written at the due status: 8 where the limit ends the
     // run, and else 0.
     ensures report { (input : List ℕ) (script : ScriptValue) (cells : ℕ) (calls : Bool) → order_of (map string_bytes words.now) ≡ Some (OrderValue.Run cells calls)
-        → S.left source.old ≡ Some input → Holds input script → is_built script ≡ true → need script ≤ cells
+        → S.left source.old ≡ Some input → Holds input script → need script ≤ cells
         → Answers (run_status script) (report_in_full script calls) (K.written sink.old) (K.written sink.new) result }
 
     // The words give an order, and it is carried out.
@@ -98,11 +96,11 @@ pub fn serve_serial<S: Source, K: Sink, B: Micro>(
     sink: &mut K,
     stock: Stock<B>,
 ) -> u8
-    requires { 32 ≤ count_of stock Prog }
+    requires { HasEnough stock }
 
-    // The words ask for a serial run, and the input holds a script that can run.
+    // The words ask for a serial run, and the input holds a script.
     ensures report { (input : List ℕ) (script : ScriptValue) (calls : Bool) → order_of (map string_bytes words.now) ≡ Some (OrderValue.Serial calls)
-        → S.left source.old ≡ Some input → Holds input script → is_built script ≡ true
+        → S.left source.old ≡ Some input → Holds input script
         → Answers (run_status script) (report_in_full script calls) (K.written sink.old) (K.written sink.new) result }
 
     ensures obeys { (order : OrderValue) → option_and_then only_serial (order_of (map string_bytes words.now)) ≡ Some order → Obeys order
@@ -132,7 +130,7 @@ pub fn check_only<S: Source, K: Sink, B: Micro>(
     sink: &mut K,
     stock: Stock<B>,
 ) -> u8
-    requires { 32 ≤ count_of stock Prog }
+    requires { HasEnough stock }
 
     ensures obeys { (order : OrderValue) → option_and_then only_check (order_of (map string_bytes words.now)) ≡ Some order → Obeys order
         (record { left = S.left source.old; left_after = S.left source.new; source_faults = S.faults source.old; source_faults_after = S.faults source.new; written = K.written sink.old; written_after = K.written sink.new; sink_faults = K.faults sink.old; sink_faults_after = K.faults sink.new })

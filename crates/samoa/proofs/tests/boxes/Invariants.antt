@@ -1,16 +1,14 @@
-use Rattle.std.proofs.Common.{◌≡◌, ◌-◌, true, map, vec_len}
+use Rattle.std.proofs.Common.{◌≡◌, ◌++◌, true, map}
 use Rattle.std.specs.List.{All}
-use Rattle.samoa_model.specs.declared.setup.Kind.TheVariants.{Prog}
-use Rattle.samoa_micro.specs.Covers.{count_of}
-use Rattle.samoa.specs.contracts.tests.FaintMicro.TheImpl.{ghosts}
+use Rattle.samoa_kinds.specs.contracts.any.AnyKindMicro.TheImpl.{ghosts as any}
+use Rattle.samoa.specs.contracts.tests.FaintMicro.TheImpl.{ghosts as faint}
 use Rattle.samoa.proofs.tests.boxes.Given as goal
 
--- every one is fresh, and of the scripted kind
-abbrev pub invariant-loop-alloc : goal.invariant-loop-alloc
-invariant-loop-alloc l = record {
-  fresh : All (λ b. (ghosts.seen b).fresh ≡ true) l.boxes.items;
-  progs : count_of (map (λ b. (ghosts.seen b).kind) l.boxes.items) Prog ≡ vec_len l.boxes;
+-- each of those that were taken is held, of the same kind
+abbrev pub invariant-loop-micro : goal.invariant-loop-micro
+invariant-loop-micro l = record {
+  fresh : All (λ b. (faint.seen b).fresh ≡ true) l.faint.items;
+  rest : All (λ b. (any.seen b).fresh ≡ true) l.micro-iterator.rest.items;
+  kinds : map (λ b. (faint.seen b).kind) l.faint.items ++ map (λ b. (any.seen b).kind) l.micro-iterator.rest.items
+      ≡ map (λ b. (any.seen b).kind) l.initial.micro-iterator.rest.items;
 }
-
-abbrev pub decreases-loop-alloc : goal.decreases-loop-alloc
-decreases-loop-alloc l = 32 - vec_len l.boxes

@@ -4,16 +4,17 @@ use Rattle.samoa_run.specs.declared.words.Order.TheVariants.{Run}
 use Rattle.samoa_serial.specs.LimitedReport.{report_in_full}
 use Rattle.samoa_run.specs.Statuses.{number}
 use Rattle.samoa_run.specs.Serving.{Answers, AnswersOne}
-use Rattle.samoa_run.specs.Due.{IsOutput, can_do, done_status, run_status}
-use Rattle.samoa_run.proofs.Runnable.{can_run_in}
+use Rattle.samoa_run.specs.Due.{IsOutput, has_cells, done_status, run_status}
+use Rattle.std.proofs.lemmas.Bool.{le-leb}
+use Rattle.samoa_model.specs.Cells.{need}
 use Rattle.samoa_run.proofs.Served.{the_one}
 use Rattle.samoa_run.proofs.top.serve.Goals as goal
 
 pub returns-in-Some-clause-report : goal.returns-in-Some-clause-report
 returns-in-Some-clause-report g c =
-    λ input script cells calls words left held ready enough.
+    λ input script cells calls words left held enough.
     let same : c.in-Some.order ≡ Run cells calls = cc in
-    let P : Order → Type 0 = λ order. can_do order script ≡ true
+    let P : Order → Type 0 = λ order. has_cells order script ≡ true
     → AnswersOne (done_status order script) (IsOutput order script) (g.K.Sink.written c.args.sink.now) (g.K.Sink.written c.obey.new.sink) (number c.obey.result) in
     let S : ℕ → Type 0 = Answers (run_status script) (report_in_full script calls) (g.K.Sink.written c.args.sink.now) (g.K.Sink.written c.obey.new.sink) in
-    subst S (sym c.number.ensures) (the_one (report_in_full script calls) (subst P same (c.obey.ensures.done input script left held) (can_run_in script cells calls ready enough)))
+    subst S (sym c.number.ensures) (the_one (report_in_full script calls) (subst P same (c.obey.ensures.done input script left held) (le-leb (need script) cells enough)))
