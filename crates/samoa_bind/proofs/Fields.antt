@@ -1,7 +1,7 @@
 -- The fields of the tables.
 use Rattle.std.proofs.Common.{arith, ◌≡◌, ◌⊎◌, inl, inr, ◌<◌, ◌≤◌, ◌+◌, ◌-◌, ℕ, zero, suc, refl, sym, ap, subst, ◌∙◌, List, [], ◌∷◌, ◌++◌, length, get_or, set, map, replicate, Some, None, add-one}
 use Rattle.std.specs.List.{All}
-use Rattle.std.proofs.lemmas.List.{get_or-map, get_or_past, length-map, length-replicate, map-set}
+use Rattle.std.proofs.lemmas.List.{get_or-map, get_or_past, get_or_push, get_or-replicate, get_or-set_same, length-map, length-replicate, map-set}
 use Rattle.std.proofs.Math.ListN.{get_or-map as get_or_map_default}
 use Rattle.std.proofs.lemmas.Bool.{cases_lt}
 use Rattle.std.proofs.lemmas.List.Elements.{All-map, All-nil, All-replicate, All-set, All-weaker}
@@ -11,14 +11,15 @@ use Rattle.samoa_model.specs.declared.script.TableDef.{TableDef}
 use Rattle.samoa_model.specs.declared.script.ChangeDef.{ChangeDef}
 use Rattle.samoa_model.specs.declared.script.Script.{Script}
 use Rattle.samoa_model.specs.Range.{IsChangeInRange, IsInRange}
-use Rattle.samoa_model.specs.Scripts.{Table, rebound}
+use Rattle.samoa_model.specs.Scripts.{Table, first_table, rebound}
+use Rattle.samoa_model.specs.declared.script.EventDef.{EventDef}
 use Rattle.samoa_bind.specs.declared.history.Binding.{Binding}
 use Rattle.samoa_bind.specs.declared.epochs.Epochs.{Epochs}
 use Rattle.samoa_bind.specs.declared.tables.Tables.TheInside.{Inside}
-use Rattle.samoa_bind.specs.Bound.{Bindings, epochs_of, last_table, table_at, with_change}
-use Rattle.samoa_bind.specs.Histories.{Past, found_after, meant, meant_or, no_past, table_in, tables_to}
+use Rattle.samoa_bind.specs.Bound.{Bindings, epochs_of, first_tables, last_table, lists_of, table_at, with_change}
+use Rattle.samoa_bind.specs.Histories.{Past, found_after, meant_or, no_past, table_in, tables_to}
 use Rattle.samoa_bind.specs.Kept.{AreRows, HasRoom, IsBinding, IsFirst, IsKept, IsNode, IsRoomier, bindings_in, histories_of, tables_of}
-use Rattle.samoa_bind.proofs.Histories.{as-many-events, found-one, length-table, length-tables, node-roomier, table-at, table-first, tables-at, tables-roomier}
+use Rattle.samoa_bind.proofs.Histories.{found-one, length-rebound, length-table, length-tables, node-roomier, table-at, table-first, tables-at, tables-roomier}
 
 -- the tables of a node
 pub epochs-at : (t : Inside) (node : ℕ) (x : Epochs) → node < length t.nodes.items → x ≡ get_or t.nodes.items node x
@@ -177,3 +178,17 @@ pub rows-first : (script : Script) → IsInRange script → AreRows (length scri
 rows-first script range =
     All-map (λ (rows : List TableDef). All (λ (row : TableDef). row.event.0 < length script.events) rows) (λ (c : ChangeDef). c.table) script.changes
     (All-weaker (IsChangeInRange script) (λ (c : ChangeDef). All (λ (row : TableDef). row.event.0 < length script.events) c.table) (λ c is. is.events) script.changes range.changes)
+
+-- the table of a new epoch has as many events as the last one
+pub length-new : (tables : Bindings) (node : NodeId) (change : ChangeId) → node.0 < length tables.epochs
+    → length (table_at (record tables { epochs = with_change tables node change; room = 0 }) node (length (epochs_of tables node))) ≡ length (last_table tables node)
+length-new tables node change lt =
+    ap (λ (ts : List Table). length (get_or ts (length (epochs_of tables node)) []))
+    (get_or-set_same tables.epochs node.0 (epochs_of tables node ++ rebound (lists_of tables change) (last_table tables node) ∷ []) [] lt)
+    ∙ (ap (λ (t : Table). length t) (get_or_push (epochs_of tables node) (rebound (lists_of tables change) (last_table tables node)) [] (length (epochs_of tables node)) refl)
+    ∙ length-rebound (lists_of tables change) (last_table tables node))
+
+-- and each table has as many as the first one
+pub length-first : (script : Script) (node : NodeId) (room : ℕ) → node.0 < script.nodes → length (last_table (record (first_tables script) { room = room }) node) ≡ length script.events
+length-first script node room lt =
+    ap (λ (ts : List Table). length (get_or ts (length ts - 1) [])) (get_or-replicate script.nodes node.0 (first_table script ∷ []) [] lt) ∙ length-map script.events (λ (e : EventDef). e.handlers)

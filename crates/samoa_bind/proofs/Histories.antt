@@ -1,14 +1,13 @@
 -- Tables by what was bound to each event.
-use Rattle.std.proofs.Common.{arith, ◌≡◌, ◌≢◌, ◌⊎◌, inl, inr, ◌<◌, ◌≤◌, ◌+◌, ◌-◌, ℕ, zero, suc, refl, sym, ap, subst, ◌∙◌, List, [], ◌∷◌, ◌++◌, length, get_or, set, take, map, replicate, Bool, true, false, Option, Some, None, leb, if◌then◌else◌, add-one}
+use Rattle.std.proofs.Common.{arith, ◌≡◌, ◌⊎◌, inl, inr, ◌<◌, ◌≤◌, ◌+◌, ◌-◌, ℕ, zero, suc, refl, sym, ap, subst, ◌∙◌, List, [], ◌∷◌, ◌++◌, length, get_or, set, take, map, replicate, Bool, true, false, Option, Some, None, leb, if◌then◌else◌}
 use Rattle.std.specs.List.{All}
 use Rattle.std.proofs.lemmas.Bool.{cases_lt, le-leb, lt-leb}
-use Rattle.std.proofs.lemmas.List.{get_or-map, get_or_append_left, get_or_push, get_or_read, length-append, length-map, length-set, map-set, take_more}
-use Rattle.std.proofs.lemmas.List.Elements.{All-set, All-push, All-get_or, All-map, All-more, All-weaker}
-use Rattle.samoa_model.specs.declared.ids.HandlerId.{HandlerId}
+use Rattle.std.proofs.lemmas.List.{get_or-map, get_or_append_left, get_or_push, get_or_read, length-append, length-map, length-set, map-set}
+use Rattle.std.proofs.lemmas.List.Elements.{All-more, All-weaker}
 use Rattle.samoa_model.specs.declared.script.TableDef.{TableDef}
 use Rattle.samoa_model.specs.Scripts.{Table, rebound}
 use Rattle.samoa_bind.specs.declared.history.Binding.{Binding}
-use Rattle.samoa_bind.specs.Histories.{Past, found_after, meant, meant_or, no_past, no_row, table_in, tables_to}
+use Rattle.samoa_bind.specs.Histories.{Past, found_after, meant, meant_or, no_past, table_in, tables_to}
 use Rattle.samoa_bind.specs.Kept.{HasRoom, IsBinding, IsNode, IsRoomier, histories_of, tables_of}
 use Rattle.samoa_bind.specs.declared.epochs.Epochs.{Epochs}
 use Rattle.std.proofs.Math.Seq.{map-set_same}

@@ -15,7 +15,7 @@ use Rattle.samoa_model.specs.declared.record.Ext.{Ext}
 use Rattle.samoa_model.specs.declared.script.ChangeDef.{ChangeDef}
 use Rattle.samoa_model.specs.declared.script.DeclDef.{DeclDef}
 use Rattle.samoa_model.specs.declared.script.Script.{Script}
-use Rattle.samoa_model.specs.Range.{IsInRange, IsBuilt, IsExtOf, IsCauseOf, IsChangeInRange, IsDeclOf, IsEventInRange, IsEventOf}
+use Rattle.samoa_model.specs.Range.{IsInRange, IsExtOf, IsCauseOf, IsChangeInRange, IsDeclOf, IsEventInRange, IsEventOf}
 use Rattle.samoa_model.specs.Scripts.{Table, rebound, caused, change_at, decl_of, event_at, root_of, no_change, no_decl, no_event, first_table}
 use Rattle.samoa_invariant.specs.Play.{table_at, table_of}
 use Rattle.samoa_invariant.specs.Runs.{Trace, ext_at, play}

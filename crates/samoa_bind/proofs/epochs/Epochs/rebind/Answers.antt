@@ -1,9 +1,9 @@
-use Rattle.std.proofs.Common.{arith, ◌≡◌, ◌≤◌, ◌<◌, ◌+◌, ◌∙◌, ℕ, List, [], ◌∷◌, ◌++◌, get_or, length, set, take, ap, refl, subst, sym}
+use Rattle.std.proofs.Common.{arith, ◌≡◌, ◌+◌, ◌∙◌, ℕ, List, [], ◌∷◌, ◌++◌, get_or, set, ap, refl, subst, sym}
 use Rattle.std.proofs.lemmas.List.{get_or_read, take_all}
 use Rattle.samoa_model.specs.declared.ids.EventId.{EventId}
 use Rattle.samoa_model.specs.declared.script.TableDef.{TableDef}
 use Rattle.samoa_bind.specs.Histories.{Past, table_in}
-use Rattle.samoa_model.specs.Scripts.{Table, rebound}
+use Rattle.samoa_model.specs.Scripts.{rebound}
 use Rattle.samoa_bind.specs.Kept.{histories_of, tables_of}
 use Rattle.samoa_bind.proofs.Rebinding.{AreBound, all-bound, node-bound, none-bound, none-later, one-bound, row-event}
 use Rattle.samoa_bind.proofs.epochs.Epochs.rebind.Goals as goal

@@ -1,11 +1,11 @@
-use Rattle.std.proofs.Common.{arith, ◌≡◌, ◌≤◌, ◌<◌, ◌+◌, ◌∙◌, ℕ, List, get_or, length, take, subst, sym}
+use Rattle.std.proofs.Common.{◌≡◌, ◌≤◌, List, get_or, length, take, subst}
 use Rattle.std.specs.List.{All}
 use Rattle.std.proofs.lemmas.List.{take_all}
 use Rattle.std.proofs.lemmas.List.Elements.{All-more}
 use Rattle.samoa_model.specs.declared.script.TableDef.{TableDef}
 use Rattle.samoa_bind.specs.Histories.{no_past}
-use Rattle.samoa_bind.specs.Kept.{HasRoom, IsRoomier}
-use Rattle.samoa_bind.proofs.Histories.{roomier-itself, roomier-than, still-room}
+use Rattle.samoa_bind.specs.Kept.{HasRoom}
+use Rattle.samoa_bind.proofs.Histories.{roomier-than, still-room}
 use Rattle.samoa_bind.proofs.epochs.Epochs.reserve.Goals as goal
 
 pub returns-clause-room : goal.returns-clause-room

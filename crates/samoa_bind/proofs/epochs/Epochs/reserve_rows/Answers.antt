@@ -1,12 +1,10 @@
-use Rattle.std.proofs.Common.{arith, ◌≡◌, ◌≤◌, ◌<◌, ◌+◌, ◌∙◌, ℕ, List, get_or, length, set, take, refl, ap, subst, sym}
+use Rattle.std.proofs.Common.{arith, ◌≡◌, ◌≤◌, ◌<◌, ◌∙◌, ℕ, List, get_or, length, set, take, refl, ap, subst, sym}
 use Rattle.std.specs.List.{All}
 use Rattle.std.proofs.lemmas.List.{get_or-set_same, take_all}
-use Rattle.std.proofs.lemmas.List.Elements.{All-more, All-weaker}
 use Rattle.samoa_model.specs.declared.script.TableDef.{TableDef}
 use Rattle.samoa_bind.specs.Histories.{Past, no_past}
 use Rattle.samoa_model.specs.declared.ids.EventId.{EventId}
-use Rattle.samoa_bind.specs.Kept.{IsRoomier}
-use Rattle.samoa_bind.proofs.Histories.{as-many-events, no-less-room, room-more, roomier-itself, roomier-than, same-bindings}
+use Rattle.samoa_bind.proofs.Histories.{as-many-events, no-less-room, room-more, roomier-than, same-bindings}
 use Rattle.samoa_bind.proofs.epochs.Epochs.reserve_rows.Goals as goal
 
 pub returns-in_err-reserve-clause-roomier : goal.returns-in_err-reserve-clause-roomier

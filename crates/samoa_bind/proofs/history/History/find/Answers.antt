@@ -1,4 +1,4 @@
-use Rattle.std.proofs.Common.{◌≡◌, ◌≤◌, ◌<◌, ◌-◌, leb, leb-true, arith, rules, ℕ, List, Bool, true, false, Some, None, get_or, length, ap, refl, subst, sym}
+use Rattle.std.proofs.Common.{◌≡◌, ◌-◌, leb, leb-true, arith, rules, ℕ, List, true, false, Some, None, length, ap, subst, sym}
 use Rattle.std.specs.List.Sorted.{IsPartitionPoint, IsPartitionedBy}
 use Rattle.std.proofs.lemmas.Bool.{leb-false}
 use Rattle.std.proofs.lemmas.List.Sorted.{IsPartitionPoint-from_clause, IsPartitionedBy-leb}

@@ -1,4 +1,4 @@
-use Rattle.std.proofs.Common.{arith, ◌≡◌, ◌<◌, ◌+◌, ◌∙◌, ℕ, ap, length, subst, sym}
+use Rattle.std.proofs.Common.{◌≡◌, ◌<◌, ◌+◌, ◌∙◌, ℕ, ap, length, subst, sym}
 use Rattle.samoa_bind.specs.Bound.{Bindings, epochs_of}
 use Rattle.samoa_bind.proofs.Fields.{length-epochs, node-there}
 use Rattle.samoa_bind.proofs.tables.Tables.current.Goals as goal

@@ -1,11 +1,10 @@
-use Rattle.std.proofs.Common.{arith, ◌≡◌, ◌<◌, ◌+◌, ◌∙◌, ℕ, List, [], ◌∷◌, ap, get_or, length, map, replicate, subst, sym}
+use Rattle.std.proofs.Common.{arith, ◌≡◌, ◌∙◌, ℕ, List, [], ◌∷◌, ap, length, map, replicate, subst}
 use Rattle.std.specs.List.{All}
 use Rattle.samoa_model.specs.declared.script.TableDef.{TableDef}
 use Rattle.samoa_model.specs.Scripts.{Table, first_table}
 use Rattle.samoa_model.specs.declared.script.ChangeDef.{ChangeDef}
 use Rattle.samoa_model.specs.declared.script.EventDef.{EventDef}
 use Rattle.std.proofs.lemmas.List.{length-map}
-use Rattle.samoa_bind.specs.declared.epochs.Epochs.{Epochs}
 use Rattle.samoa_bind.specs.Bound.{Bindings}
 use Rattle.samoa_bind.specs.Kept.{IsFirst}
 use Rattle.samoa_bind.proofs.Fields.{first-epochs, nodes-first, rows-first}

@@ -1,4 +1,4 @@
-use Rattle.std.proofs.Common.{arith, ◌≡◌, ◌<◌, ◌+◌, ◌∙◌, ℕ, List, [], ◌∷◌, ◌++◌, ap, get_or, length, set, subst, sym}
+use Rattle.std.proofs.Common.{arith, ◌≡◌, ◌<◌, ◌∙◌, List, [], ◌∷◌, ◌++◌, ap, get_or, length, subst, sym}
 use Rattle.std.proofs.lemmas.List.{get_or-set_same}
 use Rattle.samoa_model.specs.Scripts.{Table, rebound}
 use Rattle.samoa_model.specs.declared.script.TableDef.{TableDef}

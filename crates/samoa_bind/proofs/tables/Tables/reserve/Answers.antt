@@ -1,4 +1,4 @@
-use Rattle.std.proofs.Common.{arith, ◌≡◌, ◌<◌, ◌+◌, ◌∙◌, ℕ, List, ap, get_or, length, set, subst, sym, rules}
+use Rattle.std.proofs.Common.{arith, ◌∙◌, List, ap}
 use Rattle.samoa_model.specs.Scripts.{Table}
 use Rattle.samoa_bind.specs.Bound.{Bindings}
 use Rattle.samoa_bind.proofs.Fields.{epochs-roomier}

@@ -1,10 +1,9 @@
-use Rattle.std.proofs.Common.{arith, ◌≡◌, ◌<◌, ◌+◌, ◌∙◌, ℕ, List, [], Some, None, Option, ap, get_or, length, set, subst, sym}
+use Rattle.std.proofs.Common.{arith, ◌<◌, ◌∙◌, [], Option, ap, get_or, length, subst, sym}
 use Rattle.std.proofs.lemmas.List.{get_or_read}
-use Rattle.samoa_model.specs.declared.ids.HandlerId.{HandlerId}
 use Rattle.samoa_model.specs.declared.script.TableDef.{TableDef}
 use Rattle.samoa_bind.specs.declared.history.Binding.{Binding}
 use Rattle.samoa_bind.specs.Bound.{Bindings, epochs_of, lists_of, table_at}
-use Rattle.samoa_bind.specs.Histories.{found_after, meant, meant_or, no_past, no_row}
+use Rattle.samoa_bind.specs.Histories.{meant_or, no_row}
 use Rattle.samoa_bind.proofs.Fields.{event-within, found-is, node-is, node-within, resolve-is}
 use Rattle.samoa_bind.proofs.tables.Tables.resolve.Goals as goal
 
