@@ -178,10 +178,12 @@ fn work<B: Micro + Send, G: Gate, R: Wait>(
     ensures { HasWorked seat.old seat.new }
 {
     for _ in rt.forever() {
-        match board.enter(seat, rt) {
+        let entered = board.enter(seat, rt);
+        match entered {
             Entered::Work(turn) => make(rt, alloc, board, seat, gate, turn),
-            Entered::Busy { .. } => thread::yield_now(),
-            Entered::AllEnded | Entered::Stopped => return,
+            Entered::Busy { away: _ } => thread::yield_now(),
+            Entered::AllEnded => return,
+            Entered::Stopped => return,
         }
     }
     unreachable!()
