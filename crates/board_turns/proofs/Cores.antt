@@ -1,6 +1,5 @@
 -- A core in which the items of a script are admitted.
-use Rattle.std.proofs.Common.{◌≡◌, ℕ, ◌+◌, ◌-◌, ◌<◌, ◌==◌, true, List, [], ◌∷◌, All, ap, arith, get_or, length, refl, subst, sym, take, ◌∙◌}
-use Rattle.std.proofs.lemmas.Bool.{eqb-true}
+use Rattle.std.proofs.Common.{◌≡◌, ℕ, ◌+◌, ◌-◌, ◌<◌, true, List, [], All, ap, arith, get_or, length, refl, subst, sym, take, ◌∙◌}
 use Rattle.std.proofs.lemmas.List.Elements.{All-get_or, All-same}
 use Rattle.samoa_model.specs.Range.{IsCauseOf, IsDoInRange}
 use Rattle.samoa_model.specs.declared.script.DoDef.{DoDef}
@@ -13,10 +12,6 @@ use Rattle.samoa_core.specs.Since.{admissions, cleared_comps, last_of}
 pub none_cleared : (t : Trace) → t.clears ≡ [] → cleared_comps t ≡ 0
 unfolding cleared_comps
 none_cleared t e = ap (λ (clears : List ℕ). admissions (take (last_of 0 clears) t.journal)) e
-
-pub empty : {A : Type 0} (xs : List A) → (length xs == 0) ≡ true → xs ≡ []
-empty [] e = refl
-empty (x ∷ xs) e = absurd (let none : length (x ∷ xs) ≡ 0 = eqb-true (length (x ∷ xs)) 0 e in omega arith)
 
 pub item_in : (script : Script) (items : List DoDef) (i : ℕ) (item : DoDef) → All (IsDoInRange script) script.does → items ≡ script.does → i < length items
     → item ≡ get_or items i item → IsDoInRange script item

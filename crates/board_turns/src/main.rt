@@ -4,19 +4,17 @@
 //! thread with no board. What is written is the same for every schedule.
 #![tactic(auto)]
 
-mod crew;
 mod opened;
 mod report;
 
-ghost use Rattle.std.specs.Prelude.{◌<◌, IfSome};
+ghost use Rattle.std.specs.Prelude.{◌≤◌, IfSome};
 ghost use Rattle.samoa_model.specs.Range.{IsInRange};
 
-use crew::run_on_board;
 use opened::{Fault, opened};
 use report::report;
 use samoa_model::{NoMemory, Script};
 use samoa_script::read_script;
-use samoa_workers::drain;
+use samoa_workers::{NoGate, drain, run_batch};
 use std::alloc::Global;
 use std::io::Write;
 use std::sync::Wait;
@@ -34,9 +32,11 @@ fn on_board<R: Threads + Wait + Sync>(
     workers: u32,
 ) -> Result<Vec<u8>, Fault>
     requires in_range { IsInRange script.now }
-    requires some { 0 < workers }
+    requires some { 1 ≤ workers }
+    requires few { workers ≤ MOST_WORKERS }
 {
-    let core = run_on_board(rt, alloc, opened(alloc, script)?, workers)?;
+    let core = opened(alloc, script)?;
+    let (core, _batch) = run_batch(rt, alloc, core, workers, &NoGate::new());
     if !core.all_ended() {
         return Err(Fault::Memory);
     }
@@ -57,7 +57,8 @@ fn on_one_thread(alloc: Global, script: &Script) -> Result<Vec<u8>, Fault>
 
 /// A number of workers, from 1 to 64.
 fn workers_in(word: &str) -> Option<u32>
-    ensures { IfSome result (λ workers. 0 < workers) }
+    ensures some { IfSome result (λ workers. 1 ≤ workers) }
+    ensures few { IfSome result (λ workers. workers ≤ MOST_WORKERS) }
 {
     let workers = word.parse::<u32>().ok()?;
     if workers < 1 || workers > MOST_WORKERS {

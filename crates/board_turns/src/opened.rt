@@ -2,7 +2,7 @@
 ghost use Rattle.std.specs.Prelude.{◌≡◌, ◌<◌, ◌≤◌, [], true, All, IfOk, OnOk};
 ghost use Rattle.std.specs.Bool.{OnTrue};
 ghost use Rattle.samoa_model.specs.Cells.{need as cells_needed};
-ghost use Rattle.samoa_model.specs.Range.{IsBuilt, IsCauseOf, IsInRange};
+ghost use Rattle.samoa_model.specs.Range.{IsCauseOf, IsInRange};
 ghost use Rattle.samoa_micro.specs.Covers.{Covers};
 ghost use Rattle.samoa_invariant.specs.State as model;
 ghost use Rattle.samoa_invariant.specs.Runs.{play, state};
@@ -24,7 +24,7 @@ const MOST_BOXES: usize = 192;
 /// Why a script isn't run.
 #[derive(Clone, Copy, Debug, PartialEq, Eq)]
 pub enum Fault {
-    /// It has a part that can't run here: changes, or a microprotocol that isn't scripted.
+    /// It has a microprotocol that isn't scripted.
     Unfit,
     /// Its items hold more cells than there are.
     TooMany,
@@ -67,16 +67,12 @@ fn boxes(alloc: Global) -> Result<Vec<Prog>, NoMemory>
     Ok(boxes)
 }
 
-/// Whether a script has no changes, the stock is enough for it, and a computation of it has room.
+/// Whether the stock is enough for a script, and a computation of it has room.
 fn can_run<B: Micro>(script: &Script, stock: &Stock<B>) -> bool
     requires { IsInRange script.now }
-    ensures built { OnTrue result (IsBuilt script.now) }
     ensures covers { OnTrue result (Covers script.now stock.now) }
     ensures cells { OnTrue result (cells_needed script.now ≤ CELLS) }
 {
-    if !script.changes.as_slice().is_empty() {
-        return false;
-    }
     if !stock.covers(script) {
         return false;
     }

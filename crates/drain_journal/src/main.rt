@@ -2,10 +2,14 @@
 //! are enough for, and writes its report, and then all steps that were made, one a line. It serves to compare journals.
 #![tactic(auto)]
 
+ghost use Rattle.std.specs.Prelude.{◌≡◌, true, All, IfOk};
+ghost use Rattle.samoa_model.specs.Range.{IsInRange};
+
 use itoa::Buffer;
 use samoa_ends::{Sink, Source, StdSink, StdSource};
-use samoa_kinds::full_stock;
-use samoa_model::{NoMemory, Step};
+use samoa_micro::{Micro, Stock};
+use samoa_model::{NoMemory, Script, Step};
+use samoa_prog::Prog;
 use samoa_run::{CELLS, Stop, read_input, run_script};
 use samoa_script::read_script;
 use std::alloc::Global;
@@ -19,7 +23,7 @@ fn main(rt: HostRuntime) -> ExitCode {
     ExitCode::from(run(alloc, &mut source, &mut sink))
 }
 
-/// Writes the report and the journal, and answers the status: 3 for what is no script, and 8 where the
+/// Writes the report and the journal, and answers the status: 3 for what is no script that it runs, and 8 where the
 /// limit of computations ended the run.
 fn run<S: Source, K: Sink>(alloc: Global, source: &mut S, sink: &mut K) -> u8 {
     match write_run(alloc, source, sink) {
@@ -32,7 +36,7 @@ fn run<S: Source, K: Sink>(alloc: Global, source: &mut S, sink: &mut K) -> u8 {
 }
 
 /// Writes the report and the journal, and answers whether the limit of computations ended the run. None for what is
-/// no script.
+/// no script, or has microprotocols of other kinds than the scripted one.
 fn write_run<S: Source, K: Sink>(
     alloc: Global,
     source: &mut S,
@@ -42,11 +46,37 @@ fn write_run<S: Source, K: Sink>(
     let Ok(script) = read_script(alloc, &bytes) else {
         return Ok(None);
     };
-    let stock = full_stock(alloc)?;
-    let finished = run_script(alloc, &script, stock, CELLS, false, false, sink)?;
-    let text = journal_text(alloc, finished.core.journal())?;
-    write_all(&text, sink)?;
+    write_script(alloc, &script, sink)
+}
+
+/// The same for the script that is held.
+fn write_script<K: Sink>(alloc: Global, script: &Script, sink: &mut K) -> Result<Option<bool>, Stop>
+    requires { IsInRange script.now }
+{
+    let stock = Stock::new(boxes(alloc)?);
+    if !stock.covers(script) {
+        return Ok(None);
+    }
+    let finished = run_script(alloc, script, stock, CELLS, false, false, sink)?;
+    write_journal(alloc, finished.core.journal(), sink)?;
     Ok(Some(finished.limited))
+}
+
+/// As many scripted microprotocols as a script can take.
+fn boxes(alloc: Global) -> Result<Vec<Prog>, NoMemory>
+    ensures { IfOk result (λ boxes. All (λ b. (⟦<Prog as Micro>⟧.seen b).fresh ≡ true) boxes.items) }
+{
+    let mut boxes = Vec::new(alloc);
+    while boxes.len() < 32 {
+        boxes.push(Prog::new(alloc))?;
+    }
+    Ok(boxes)
+}
+
+/// Writes the journal of these steps.
+fn write_journal<K: Sink>(alloc: Global, steps: &[Step], sink: &mut K) -> Result<(), Stop> {
+    let text = journal_text(alloc, steps)?;
+    write_all(&text, sink)
 }
 
 /// `J` and the number of steps, and then the steps.

@@ -25,15 +25,7 @@ fn main(rt: HostRuntime) -> ExitCode {
     let mut source = StdSource::new(rt.reader());
     let mut sink = StdSink::new(io::writer(&rt));
     let gate = NoGate::new();
-    ExitCode::from(serve(
-        &rt,
-        alloc,
-        &words,
-        &mut source,
-        &mut sink,
-        stock,
-        &gate,
-    ))
+    ExitCode::from(serve(&rt, alloc, &words, &mut source, &mut sink, stock, &gate))
 }
 
 /// The words after the program's name.

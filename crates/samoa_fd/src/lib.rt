@@ -2,9 +2,9 @@
 #![tactic(auto)]
 
 mod detector;
-mod watches;
 #[cfg(test)]
 mod tests;
+mod watches;
 
 pub use detector::Fd;
 pub use watches::Watches;

@@ -1,9 +1,7 @@
 //! A detector that hears of nobody.
 use crate::Fd;
 use samoa_micro::Micro;
-use samoa_model::{
-    EventId, Listed, Moment, NoMemory, NodeId, Outcome, Reply, Setup, Words,
-};
+use samoa_model::{EventId, Listed, Moment, NoMemory, NodeId, Outcome, Reply, Setup, Words};
 use std::alloc::Global;
 use std::test::Fail;
 

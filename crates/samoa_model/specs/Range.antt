@@ -208,7 +208,3 @@ abbrev pub IsSet : Decl → Type 0
 IsSet (Decl.Set micros) = Unit {0}
 IsSet (Decl.Bound bounds) = ⊥
 IsSet (Decl.Route vertices roots edges) = ⊥
-
--- a script of the parts that can run by now: no binding changes
-pub record IsBuilt (script : Script) : Type 0 where
-  pub unchanging : script.changes ≡ []

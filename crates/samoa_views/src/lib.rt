@@ -1,8 +1,8 @@
 //! The kind `views`: the number and the members of the group's view.
 #![tactic(auto)]
 
-mod views;
 #[cfg(test)]
 mod tests;
+mod views;
 
 pub use views::{View, Views};
