@@ -1,7 +1,7 @@
 -- When a stock has enough for a script, told by the kinds that stand in the script.
 use Rattle.std.proofs.Common.{◌≡◌, ◌≤◌, ◌⊎◌, inl, inr, Bool, true, false, ◌&&◌, List, [], ◌∷◌, refl, ◌∙◌, arith, rules, nat_le}
 use Rattle.std.specs.List.{count_by, list_all}
-use Rattle.std.proofs.lemmas.Bool.{leb-true, le-leb}
+use Rattle.std.proofs.lemmas.Bool.{and_parts, leb-true, le-leb}
 use Rattle.samoa_model.specs.declared.setup.Kind.{Kind}
 use Rattle.samoa_model.specs.declared.script.MicroDef.{MicroDef}
 use Rattle.samoa_model.specs.declared.script.Script.{Script}
@@ -16,10 +16,6 @@ has_enough script kinds micro = nat_le (wanted script micro.kind) (count_of kind
 same_kind : (a b : Kind) → ghosts.eq a b ≡ true → a ≡ b
 same_kind a b same = search rules
 
-both : (a b : Bool) → (a && b) ≡ true → (a ≡ true) × (b ≡ true)
-both true b h = (refl, h)
-both false b h = cc
-
 -- in a list whose items all pass the one test, none passes the other, or some passes both
 abbrev NoneOrBoth : {X : Type 0} (p q : X → Bool) → List X → Type 0
 NoneOrBoth {X} p q xs = (count_by p xs ≡ 0) ⊎ ((x : X) × (p x ≡ true) × (q x ≡ true))
@@ -32,7 +28,7 @@ one_more p q x xs false passes holds (inr some) = inr some
 none_or_both : {X : Type 0} (p q : X → Bool) → (xs : List X) → list_all q xs ≡ true → NoneOrBoth p q xs
 none_or_both p q [] all = inl refl
 none_or_both p q (x ∷ xs) all =
-    let parts = both (q x) (list_all q xs) all in
+    let parts = and_parts (q x) (list_all q xs) all in
     one_more p q x xs (p x) refl parts.0 (none_or_both p q xs parts.1)
 
 -- a kind of which the script takes none, or of which there are enough

@@ -28,9 +28,6 @@ count-rounds (suc n) kind =
     let one : count_of all_kinds kind ≡ 1 = one_of_each kind in
     omega (arith, more, before, one)
 
-pub enough-rounds : HasEnough (rounds 32)
-enough-rounds kind = let count : count_of (rounds 32) kind ≡ 32 = count-rounds 32 kind in omega (arith, count)
-
 -- what has enough of every kind covers every valid script
 pub covers-valid : (script : Script) (kinds : List Kind) → IsValid script → HasEnough kinds → Covers script kinds
 covers-valid script kinds valid enough kind =

@@ -1,7 +1,7 @@
 -- Runs of the tables, beside what an independent program gives for the same moments.
 use Rattle.std.specs.Prelude.{◌≡◌, ℕ, List, [], ◌∷◌, refl}
-use Rattle.samoa_serial.specs.Kinds.{kind_step, opening, shown}
-use Rattle.samoa_serial.specs.State.{State}
+use Rattle.samoa_serial.specs.Kinds.{opening}
+use Rattle.samoa_serial.proofs.ReferenceMoments.{run}
 use Rattle.samoa_model.specs.declared.handler.Moment.{Moment}
 use Rattle.samoa_model.specs.declared.handler.Moment.TheVariants.{Begin, Resume}
 use Rattle.samoa_model.specs.declared.handler.Dest.TheVariants.{One, All}
@@ -11,13 +11,6 @@ use Rattle.samoa_model.specs.declared.handler.Outcome.TheVariants as gives
 use Rattle.samoa_model.specs.declared.setup.Kind.{Kind}
 use Rattle.samoa_model.specs.declared.setup.Kind.TheVariants as kinds
 use Rattle.samoa_model.specs.declared.setup.Setup.{Setup}
-
--- what each moment gives, and what is shown after it
-abbrev run : Kind → Setup → State → List Moment → List (Outcome × List ℕ)
-run kind setup state [] = []
-run kind setup state (m ∷ ms) =
-    let next = kind_step kind setup state m in
-    (next.1, shown kind next.0) ∷ run kind setup next.0 ms
 
 abbrev link_setup : Setup
 link_setup = record { node = record { 0 = 1 }; nodes = 3; ports = (record { 0 = 10 } ∷ record { 0 = 11 } ∷ record { 0 = 12 } ∷ record { 0 = 13 } ∷ []); changes = (record { 0 = 20 } ∷ record { 0 = 21 } ∷ []); nums = ([]); codes = [] }

@@ -19,7 +19,7 @@ use Rattle.samoa_serial.specs.Calls.{Computation, take_outcome, take_outcome_at,
 use Rattle.samoa_serial.specs.Alone.{next_at, next_of, next_step}
 use Rattle.samoa_model.specs.Scripts.{resolve, Table}
 use Rattle.samoa_model.specs.Entries.{calls_at}
-use Rattle.samoa_serial.proofs.Declared.{AllOf}
+use Rattle.samoa_serial.proofs.Declared.{AllActive, AllOf, begun_active}
 use Rattle.samoa_invariant.specs.Play.{Play, table_of, point, drive, Never}
 use Rattle.samoa_invariant.proofs.preservation.Steps.{some_injective}
 use Rattle.samoa_invariant.proofs.preservation.Closed.{begun, IsClosed, closed_points}
@@ -99,16 +99,6 @@ passed_declared (Decl.Route vertices roots edges) es caller before h e =
     passed_form (Decl.Route vertices roots edges) es caller before h e in
     one_if (declares (Decl.Route vertices roots edges) h.micro.0) both.0
 
--- what holds of the handler of each active call
-abbrev pub AllActive : (HandlerId → Type 0) → List Active → Type 0
-AllActive Q [] = Unit {0}
-AllActive Q (a ∷ rest) = Q a.call.handler × AllActive Q rest
-
-pub begun_all : (Q : HandlerId → Type 0) (arg : List ℕ) (n : ℕ) (hs : List HandlerId) (rest : List Active) → AllOf Q hs → AllActive Q rest
-    → AllActive Q (to_begin arg (calls_from n hs) ++ rest)
-begun_all Q arg n [] rest all others = others
-begun_all Q arg n (h ∷ hs) rest all others = (all.0, begun_all Q arg (n + 1) hs rest all.1 others)
-
 abbrev pub IsDeclared : Decl → HandlerId → Type 0
 IsDeclared decl h = 0 < weight decl h.micro.0
 
@@ -123,7 +113,7 @@ accepted_declared : (decl : Decl) (table : Table) (es : List Entry) (caller : Op
     → attempts_of decl table es caller event ≡ Attempt.Accepts h hs → AllActive (IsDeclared decl) rest → AllActive (IsDeclared decl) (begun es arg (h ∷ hs) ++ rest)
 accepted_declared decl table es caller event arg h hs rest e all =
     let a : IsAccepted decl table es caller event h hs = is_accepted decl table es caller event h hs e in
-    begun_all (IsDeclared decl) arg _ (h ∷ hs) rest (all_declared decl es (handler_of caller) [] (h ∷ hs) a.pass) all
+    begun_active (IsDeclared decl) arg _ (h ∷ hs) rest (all_declared decl es (handler_of caller) [] (h ∷ hs) a.pass) all
 
 declared_closed : (decl : Decl) (table : Table) → IsClosed (attempts_of decl table) (ActiveDeclared decl)
 declared_closed decl table = record {

@@ -29,7 +29,8 @@ use Rattle.samoa_invariant.proofs.preservation.Versions.{if_here, if_else}
 use Rattle.samoa_invariant.proofs.refinement.Points.{some_or_none, turn_still, done-append}
 use Rattle.samoa_invariant.proofs.preservation.Steps.{some_injective}
 use Rattle.samoa_invariant.proofs.preservation.Closed.{Of, IsPlain, IsClosed, closed_replied, closed_take, closed_drive, closed_start}
-use Rattle.samoa_invariant.proofs.preservation.Accepts.{AllPass, AllActive, IsAccepted, is_accepted, passed_bound, passed_form, next_is_head}
+use Rattle.samoa_serial.proofs.Declared.{AllActive}
+use Rattle.samoa_invariant.proofs.preservation.Accepts.{AllPass, IsAccepted, is_accepted, passed_bound, passed_form, next_is_head}
 
 more_if : (b : Bool) (x y : ℕ) → (if b then x + y + 1 else x + y) ≡ x + (if b then y + 1 else y)
 more_if true x y = omega arith

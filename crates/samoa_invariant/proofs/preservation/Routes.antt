@@ -18,8 +18,8 @@ use Rattle.samoa_invariant.specs.Play.{drive, Never}
 use Rattle.samoa_model.specs.Paths.{Leads, Here, Then, IsSafe, handlers_by}
 use Rattle.samoa_invariant.specs.State.{Quiet}
 use Rattle.samoa_invariant.proofs.preservation.Closed.{Of, IsClosed, closed_drive}
-use Rattle.samoa_serial.proofs.Declared.{AllOf}
-use Rattle.samoa_invariant.proofs.preservation.Accepts.{AllPass, AllActive, IsAccepted, is_accepted, begun_all, none_unless, passed_form, next_is_head}
+use Rattle.samoa_serial.proofs.Declared.{AllActive, AllOf, begun_active}
+use Rattle.samoa_invariant.proofs.preservation.Accepts.{AllPass, IsAccepted, is_accepted, none_unless, passed_form, next_is_head}
 
 leads_trans : (vertices : List HandlerId) (edges : List (ℕ × ℕ)) (a b c : HandlerId) → Leads vertices edges a b → Leads vertices edges b c → Leads vertices edges a c
 leads_trans vertices edges a b c l Here = l
@@ -87,7 +87,7 @@ away_closed vertices roots edges table p =
           let all : Safe a.call.handler × AllActive Safe rest = k.active in
           let got : (resolve table event ≡ h ∷ hs) × AllLead vertices edges a.call.handler (h ∷ hs) = accepted_lead vertices roots edges table es a.call event h hs e in
           record {
-            active = begun_all Safe arg _ (h ∷ hs) (a ∷ rest) (safe_along vertices edges p a.call.handler (h ∷ hs) all.0 got.1) k.active;
+            active = begun_active Safe arg _ (h ∷ hs) (a ∷ rest) (safe_along vertices edges p a.call.handler (h ∷ hs) all.0 got.1) k.active;
             waiting = k.waiting;
           };
       woken = λ first w es h hs e k.
@@ -96,7 +96,7 @@ away_closed vertices roots edges table p =
           let lead : AllLead vertices edges first.asker.handler (resolve table first.event) =
           subst (λ (xs : List HandlerId). AllLead vertices edges first.asker.handler xs) (sym got.0) got.1 in
           record {
-            active = begun_all Safe first.arg _ (h ∷ hs) [] (subst (λ (xs : List HandlerId). AllOf Safe xs) got.0 (may.0 lead)) tt;
+            active = begun_active Safe first.arg _ (h ∷ hs) [] (subst (λ (xs : List HandlerId). AllOf Safe xs) got.0 (may.0 lead)) tt;
             waiting = may.1;
           };
       unwoken = λ first w es k.

@@ -2,6 +2,7 @@
 use Rattle.std.proofs.Common.{arith, ◌≡◌, ◌≢◌, ℕ, zero, suc, ◌≤◌, ◌<◌, ◌⊎◌, inl, inr, refl, sym, ap, ◌∙◌, subst, List, [], ◌∷◌, map, Bool, true, false, ◌||◌, Some, None, ◌==◌, if◌then◌else◌}
 use Rattle.std.proofs.lemmas.Bool.{cases_eq, eqb-true, or_cases}
 use Rattle.std.proofs.lemmas.List.Folds.{list_any-append}
+use Rattle.std.proofs.Math.Bool.{or-false}
 use Rattle.std.specs.List.{list_any}
 use Rattle.samoa_serial.specs.declared.call.Active.{Active}
 use Rattle.samoa_serial.specs.declared.call.Call.{Call}
@@ -34,10 +35,6 @@ bound_named (b ∷ bs) p lt = go (cases_eq b.0 p) (λ h. bound_named bs p h)
     go (inl e) ih = inl e
     go (inr ne) ih = inr (ih (subst (λ (x : ℕ). 0 < x) (if_else {A = ℕ} b.0 p b.1 (bound_in bs p) ne) lt))
 
-first : (b : Bool) → (b || false) ≡ true → b ≡ true
-first true e = refl
-first false e = e
-
 any_named : {A : Type 0} (f : A → ℕ) (xs : List A) (p : ℕ) → list_any (λ x. f x == p) xs ≡ true → IsIn p (map f xs)
 any_named f [] p e = cc
 any_named {A = A} f (x ∷ xs) p e =
@@ -46,7 +43,7 @@ any_named {A = A} f (x ∷ xs) p e =
   where
     go : (list_any (λ (y : A). f y == p) (x ∷ []) ≡ true) ⊎ (list_any (λ (y : A). f y == p) xs ≡ true)
         → (list_any (λ (y : A). f y == p) xs ≡ true → IsIn p (map f xs)) → (f x ≡ p) ⊎ IsIn p (map f xs)
-    go (inl here) ih = inl (eqb-true (f x) p (first (f x == p) here))
+    go (inl here) ih = inl (eqb-true (f x) p (sym (or-false (f x == p)) ∙ here))
     go (inr later) ih = inr (ih later)
 
 one_if_true : (b : Bool) → 0 < (if b then suc zero else zero) → b ≡ true
