@@ -9,9 +9,8 @@ ghost use Rattle.samoa_model.specs.declared.handler.Outcome.TheVariants as gives
 ghost use Rattle.samoa_serial.specs.declared.message.Message.{Message};
 ghost use Rattle.samoa_model.specs.declared.setup.Setup.{Setup};
 ghost use Rattle.samoa_laws.specs.order.Lists.{In, IsPrefix, Comparable, first_places, first_of_keys};
-ghost use Rattle.samoa_laws.specs.order.Boxes.{BoxStep, WasCast, left_by, raised_by, raised, called_up};
+ghost use Rattle.samoa_laws.specs.order.Boxes.{BoxStep, WasCast, left_by, raised_by, called_up};
 ghost use Rattle.samoa_laws.specs.order.Abcast.{abcast_opening, AbcastMay, IsAbcast, IsAbcastBox, up_to, WasDecided, WasHeard};
-ghost use Rattle.samoa_laws.specs.order.InOrder.{onto, GoesOn, raised_in, told_in};
 ghost use Rattle.samoa_laws.specs.order.Seqcast.{seqcast_opening, SeqcastMay, IsSeqcast, IsSeqcastBox, told_by, told, numbered, WasSubmitted};
 
 /// Two boxes of abcast that are given the decisions of one function call up one order: of their lists of messages,
@@ -59,13 +58,4 @@ pub fn given_to_the_box()
     ensures proposed { (setup : Setup) (steps : List (BoxStep AbcastState)) → IsAbcastBox setup steps → (port_at setup 1 ≡ port_at setup 0 → ⊥) → (port_at setup 1 ≡ port_at setup 2 → ⊥) → (s : BoxStep AbcastState) (arg frame : List ℕ) → In s steps → s.outcome ≡ gives.Call (port_at setup 1) arg frame → WasHeard steps (message_at arg 1) }
     ensures broadcast { (setup : Setup) (steps : List (BoxStep AbcastState)) → IsAbcastBox setup steps → (port_at setup 0 ≡ port_at setup 1 → ⊥) → (port_at setup 0 ≡ port_at setup 2 → ⊥) → (s : BoxStep AbcastState) (arg frame : List ℕ) → In s steps → s.outcome ≡ gives.Call (port_at setup 0) arg frame → (word arg 0 ≡ 0) × WasCast steps (message_at arg 1) }
     ensures submitted { (setup : Setup) (steps : List (BoxStep SeqcastState)) → IsSeqcastBox setup steps → (port_at setup 0 ≡ port_at setup 1 → ⊥) → (s : BoxStep SeqcastState) (arg frame : List ℕ) → In s steps → s.outcome ≡ gives.Call (port_at setup 0) arg frame → word arg 2 ≡ 0 → WasCast steps (message_at arg 3) }
-{}
-
-/// Steps with the first one first are a history with the last one first, and what was called up and told stands in the order of the steps.
-pub fn histories_in_order()
-    ensures abcast { (setup : Setup) (decision : ℕ → Option Message) (steps : List (BoxStep AbcastState)) → GoesOn (abcast_step setup) abcast_opening (AbcastMay decision) [] steps → IsAbcast setup decision (onto [] steps) }
-    ensures seqcast { (setup : Setup) (numbers : List (ℕ × Message)) (steps : List (BoxStep SeqcastState)) → GoesOn (seqcast_step setup) seqcast_opening (SeqcastMay numbers) [] steps → IsSeqcast setup numbers (onto [] steps) }
-    ensures abcast_raised { (steps : List (BoxStep AbcastState)) → raised (onto [] steps) ≡ raised_in steps }
-    ensures seqcast_raised { (steps : List (BoxStep SeqcastState)) → raised (onto [] steps) ≡ raised_in steps }
-    ensures seqcast_told { (steps : List (BoxStep SeqcastState)) → told (onto [] steps) ≡ told_in steps }
 {}

@@ -5,7 +5,7 @@ ghost use Rattle.samoa_model.specs.declared.handler.Moment.{Moment};
 ghost use Rattle.samoa_model.specs.declared.record.Ext.{Ext};
 ghost use Rattle.samoa_model.specs.declared.script.Script.{Script};
 ghost use Rattle.samoa_serial.specs.declared.message.Message.{Message};
-ghost use Rattle.samoa_laws.specs.trace.Lists.{In};
+ghost use Rattle.samoa_serial.specs.Lists.{In};
 ghost use Rattle.samoa_laws.specs.trace.Trace.{HandlerStep, trace};
 ghost use Rattle.samoa_laws.specs.trace.Group.{IsGroupHistory, handler};
 ghost use Rattle.samoa_laws.specs.order.Lists.{Comparable, first_places};

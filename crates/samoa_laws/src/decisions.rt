@@ -6,7 +6,7 @@ ghost use Rattle.samoa_model.specs.declared.script.Script.{Script};
 ghost use Rattle.samoa_serial.specs.Rows.{message_at, word};
 ghost use Rattle.samoa_serial.specs.declared.message.Message.{Message};
 ghost use Rattle.samoa_laws.specs.trace.Group.{IsGroupHistory, handler};
-ghost use Rattle.samoa_laws.specs.trace.Lists.{In};
+ghost use Rattle.samoa_serial.specs.Lists.{In};
 ghost use Rattle.samoa_laws.specs.trace.Trace.{HandlerStep, trace};
 ghost use Rattle.samoa_laws.specs.trace.Transport.{BeginsAt};
 ghost use Rattle.samoa_laws.specs.order.Lists.{IsPrefix};

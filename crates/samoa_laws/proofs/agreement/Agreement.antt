@@ -9,7 +9,7 @@ use Rattle.samoa_serial.specs.Rows.{message_at, message_of, word}
 use Rattle.samoa_serial.specs.State.{ConsState, OfCons}
 use Rattle.samoa_serial.specs.declared.message.Message.{Message}
 use Rattle.samoa_laws.specs.trace.Callers.{WasCalled}
-use Rattle.samoa_laws.specs.trace.Lists.{In}
+use Rattle.samoa_serial.specs.Lists.{In}
 use Rattle.samoa_laws.specs.trace.Trace.{HandlerStep, micro_of, trace}
 use Rattle.samoa_laws.specs.trace.Causes.{IsTrace}
 use Rattle.samoa_laws.specs.trace.Group.{IsGroupHistory, event, handler}

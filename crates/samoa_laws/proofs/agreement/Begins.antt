@@ -6,13 +6,13 @@ use Rattle.samoa_model.specs.declared.ids.HandlerId.{HandlerId}
 use Rattle.samoa_model.specs.declared.record.Ext.{Ext}
 use Rattle.samoa_model.specs.declared.script.Script.{Script}
 use Rattle.samoa_serial.specs.declared.message.Message.{Message}
-use Rattle.samoa_laws.specs.trace.Lists.{In}
+use Rattle.samoa_serial.specs.Lists.{In}
 use Rattle.samoa_laws.specs.trace.Trace.{HandlerStep, micro_of, trace}
 use Rattle.samoa_laws.specs.trace.Causes.{FollowsIn, IsTrace, frame_of}
 use Rattle.samoa_laws.specs.trace.Group.{handler}
 use Rattle.samoa_laws.specs.trace.Transport.{BeginsAt}
 use Rattle.samoa_laws.proofs.trace.Carried.{begin_index, handler_is, moment_of}
-use Rattle.samoa_laws.proofs.trace.Lists.{in_right}
+use Rattle.samoa_serial.proofs.ListLaws.{in_right}
 use Rattle.samoa_laws.proofs.trace.Points.{trace-is_trace}
 use Rattle.samoa_laws.proofs.trace.Shapes.{IsDone}
 use Rattle.samoa_laws.proofs.trace.Steps.{setting, trace-rest}

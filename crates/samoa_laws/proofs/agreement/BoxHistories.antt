@@ -13,11 +13,11 @@ use Rattle.samoa_serial.specs.ConsTable.{cons_step}
 use Rattle.samoa_serial.specs.Kinds.{kind_step, opening}
 use Rattle.samoa_serial.specs.SerialRun.{opening_states}
 use Rattle.samoa_serial.specs.State.{ConsState, OfCons, State}
-use Rattle.samoa_laws.specs.trace.Lists.{In}
+use Rattle.samoa_serial.specs.Lists.{In}
 use Rattle.samoa_laws.specs.trace.Trace.{HandlerStep, micro_of, state_at}
 use Rattle.samoa_laws.specs.trace.Causes.{Cause, FollowsIn, GoesOn, IsTrace, frame_of}
 use Rattle.samoa_laws.specs.trace.Group.{IsGroup}
-use Rattle.samoa_laws.proofs.trace.Lists.{in_middle}
+use Rattle.samoa_serial.proofs.ListLaws.{in_middle}
 use Rattle.samoa_laws.proofs.trace.Steps.{IsAt, IsAway, at_or_away, setting, state_at-away, state_at-here}
 use Rattle.samoa_laws.proofs.trace.Worlds.{group_micro, group_setup, setup_from, step_is}
 use Rattle.samoa_laws.specs.order.Boxes.{BoxStep, IsHistory, IsStep, left_by}

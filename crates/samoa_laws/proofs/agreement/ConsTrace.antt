@@ -13,12 +13,12 @@ use Rattle.samoa_serial.specs.Rows.{message_at, message_words, word}
 use Rattle.samoa_serial.specs.State.{ConsState}
 use Rattle.samoa_serial.specs.declared.message.Letter.{Letter}
 use Rattle.samoa_serial.specs.declared.message.Message.{Message}
-use Rattle.samoa_laws.specs.trace.Lists.{In}
+use Rattle.samoa_serial.specs.Lists.{In}
 use Rattle.samoa_laws.specs.trace.Trace.{HandlerStep, micro_of, trace}
 use Rattle.samoa_laws.specs.trace.Causes.{FollowsIn, IsTrace}
 use Rattle.samoa_laws.specs.trace.Group.{IsGroup, IsGroupHistory, event, handler}
 use Rattle.samoa_laws.specs.trace.Transport.{IsCalled, IsCast, IsHeard}
-use Rattle.samoa_laws.proofs.trace.Lists.{all_in, in_middle}
+use Rattle.samoa_serial.proofs.ListLaws.{each_in, in_middle}
 use Rattle.samoa_laws.proofs.trace.Points.{trace-is_trace}
 use Rattle.samoa_laws.proofs.trace.Received.{heard, upward}
 use Rattle.samoa_laws.proofs.trace.Shapes.{ConsAnnounces, ConsDecides, ConsNothing, ConsSays, ConsTells, cons-step}
@@ -149,7 +149,7 @@ announced_before script exts group past trace arg c tag = go called.by
 -- ---- the history
 node_small : (script : Script) (exts : List Ext) → IsGroupHistory script exts → (past : List HandlerStep) (x : HandlerStep) → FollowsIn script exts past x → x.node < script.nodes
 node_small script exts history past x f =
-    let known : IsExtOf script f.ext = all_in (IsExtOf script) exts f.ext history.known (subst (λ (xs : List Ext). In f.ext xs) (sym f.admitted) (in_middle f.ext f.before f.later)) in
+    let known : IsExtOf script f.ext = each_in (IsExtOf script) exts f.ext history.known (subst (λ (xs : List Ext). In f.ext xs) (sym f.admitted) (in_middle f.ext f.before f.later)) in
     subst (λ (v : ℕ). v < script.nodes) (sym f.follows.node) known.node
 
 may : (script : Script) (exts : List Ext) → IsGroupHistory script exts → (more : List HandlerStep) (x : HandlerStep) (past : List HandlerStep) → trace script exts ≡ more ++ x ∷ past

@@ -6,12 +6,12 @@ use Rattle.samoa_model.specs.declared.record.Ext.{Ext}
 use Rattle.samoa_model.specs.declared.script.Script.{Script}
 use Rattle.samoa_model.specs.declared.setup.Setup.{Setup}
 use Rattle.samoa_serial.specs.declared.message.Message.{Message}
-use Rattle.samoa_laws.specs.trace.Lists.{In}
+use Rattle.samoa_serial.specs.Lists.{In}
 use Rattle.samoa_laws.specs.trace.Trace.{HandlerStep, trace}
 use Rattle.samoa_laws.specs.trace.Causes.{IsTrace}
 use Rattle.samoa_laws.specs.trace.Group.{IsGroupHistory, handler}
 use Rattle.samoa_laws.proofs.trace.Accepted.{group_length}
-use Rattle.samoa_laws.proofs.trace.Lists.{in_append, in_left}
+use Rattle.samoa_serial.proofs.ListLaws.{in_append, in_left}
 use Rattle.samoa_laws.proofs.trace.Points.{trace-is_trace}
 use Rattle.samoa_laws.proofs.trace.Worlds.{event_for}
 use Rattle.samoa_laws.specs.order.Lists.{Comparable, IsPrefix, first_places, same_message}

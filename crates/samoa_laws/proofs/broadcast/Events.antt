@@ -19,13 +19,13 @@ use Rattle.samoa_model.specs.declared.setup.Setup.{Setup}
 use Rattle.samoa_serial.specs.Kinds.{kind_step}
 use Rattle.samoa_serial.specs.Rows.{port_at}
 use Rattle.samoa_serial.specs.State.{State}
-use Rattle.samoa_laws.specs.trace.Lists.{All, In}
+use Rattle.samoa_serial.specs.Lists.{Each, In}
 use Rattle.samoa_laws.specs.trace.Trace.{HandlerStep, micro_of}
 use Rattle.samoa_laws.specs.trace.Causes as causes
 use Rattle.samoa_laws.specs.trace.Causes.{Calls, Comes, Defers, FollowsIn, IsOther, IsRoot, IsTrace}
 use Rattle.samoa_laws.specs.trace.Group.{IsFree, IsGroup, IsGroupHistory, IsRebinding, IsWire, event, group_changes, group_events, handler}
 use Rattle.samoa_laws.proofs.trace.Accepted.{kind_port}
-use Rattle.samoa_laws.proofs.trace.Lists.{all_in, in_middle}
+use Rattle.samoa_serial.proofs.ListLaws.{each_in, in_middle}
 use Rattle.samoa_laws.proofs.trace.Received.{no_box}
 use Rattle.samoa_laws.proofs.trace.Shapes.{AbCasts, AbHandsOn, AbNothing, AbProposes, AbSays, Asks, AtPort, Casts, ConsAnnounces, ConsDecides, ConsNothing, ConsSays, ConsTells, Hands, HandsUp, IsDone, IsQuiet, LinkShape, Quiet, RbShape, Relays, Rests, Sends, Silent, Talks, abcast-step, cons-step, fd-step, link-step, rbcast-step, repl-step, seqcast-step, views-step}
 use Rattle.samoa_laws.proofs.trace.Steps.{before, setting}
@@ -97,14 +97,14 @@ never_later script exts group past trace y there called arg frame is =
     kind_now script.nodes y.node (micro_of y) y.old y.moment called arg frame (sym (outcome_is script exts group b.earlier y b.follows) ∙ is)
 
 -- ---- a port of one event is a port of a microprotocol that has it
-port_other : (n : ℕ) → 0 < n → (ports : List EventId) (port : ℕ) → All (λ (e : EventId). e.0 ≢ n) ports → (slice_index_or ports port (record { 0 = 0 })).0 ≢ n
+port_other : (n : ℕ) → 0 < n → (ports : List EventId) (port : ℕ) → Each (λ (e : EventId). e.0 ≢ n) ports → (slice_index_or ports port (record { 0 = 0 })).0 ≢ n
 port_other n lt [] port all = λ e. omega (arith, e)
 port_other n lt (e ∷ es) zero all = all.0
 port_other n lt (e ∷ es) (suc port) all = port_other n lt es port all.1
 
 -- the microprotocol p has no port of the event n
 abbrev HasNone : ℕ → ℕ → Type 0
-HasNone n p = All (λ (e : EventId). e.0 ≢ n) (group_micro p).ports
+HasNone n p = Each (λ (e : EventId). e.0 ≢ n) (group_micro p).ports
 
 -- a step of it never calls this event
 not_called : (script : Script) (exts : List Ext) → IsGroup script → (past : List HandlerStep) (y : HandlerStep) → FollowsIn script exts past y → (n : ℕ) → 0 < n
@@ -182,10 +182,10 @@ upward_bound : (script : Script) → IsGroup script → IsBound script IsUpward
 upward_bound script group = record {
   first = λ e is. ap (λ (n : ℕ). get_or (map (λ (d : EventDef). d.handlers) script.events) n []) is
       ∙ ap (λ (ds : List EventDef). get_or (map (λ (d : EventDef). d.handlers) ds) 11 []) group.events;
-  changed = λ change. subst (λ (cs : List ChangeDef). All (λ (t : TableDef). IsUpward t.event.0 t.handlers) (get_or cs change.0 no_change).table) (sym group.changes) (changed change.0);
+  changed = λ change. subst (λ (cs : List ChangeDef). Each (λ (t : TableDef). IsUpward t.event.0 t.handlers) (get_or cs change.0 no_change).table) (sym group.changes) (changed change.0);
 }
   where
-    changed : (c : ℕ) → All (λ (t : TableDef). IsUpward t.event.0 t.handlers) (get_or group_changes c no_change).table
+    changed : (c : ℕ) → Each (λ (t : TableDef). IsUpward t.event.0 t.handlers) (get_or group_changes c no_change).table
     changed zero = ((λ e. absurd (omega arith)), tt)
     changed (suc zero) = ((λ e. absurd (omega arith)), tt)
     changed (suc (suc c)) = tt
@@ -209,7 +209,7 @@ root_other script exts history past x f n low high is = go (history.allowed f.be
 
     rebinding : IsRebinding script f.before f.ext → ⊥
     rebinding r =
-        let known : IsExtOf script f.ext = all_in (IsExtOf script) exts f.ext history.known (subst (λ (xs : List Ext). In f.ext xs) (sym f.admitted) (in_middle f.ext f.before f.later)) in
+        let known : IsExtOf script f.ext = each_in (IsExtOf script) exts f.ext history.known (subst (λ (xs : List Ext). In f.ext xs) (sym f.admitted) (in_middle f.ext f.before f.later)) in
         let in_range : r.change.0 < length script.changes = subst (IsCauseOf script) r.cause known.cause in
         let lt : r.change.0 < length group_changes = subst (λ (cs : List ChangeDef). r.change.0 < length cs) history.group.changes in_range in
         let root : root_of script f.ext.cause ≡ event 18 =
@@ -229,7 +229,7 @@ root_other script exts history past x f n low high is = go (history.allowed f.be
 -- ---- a begin at such an event was called by a step
 stands_at : (script : Script) (exts : List Ext) → IsGroup script → (past : List HandlerStep) (x : HandlerStep) (f : FollowsIn script exts past x)
     → (e : EventId) (h : HandlerId) → In h ((setting f).handlers e) → event_for h ≡ e.0
-stands_at script exts group past x f e h bound = all_in (λ (g : HandlerId). event_for g ≡ e.0) ((setting f).handlers e) h (bound_stands script exts group past x f e) bound
+stands_at script exts group past x f e h bound = each_in (λ (g : HandlerId). event_for g ≡ e.0) ((setting f).handlers e) h (bound_stands script exts group past x f e) bound
 
 not_root : (script : Script) (exts : List Ext) → IsGroupHistory script exts → (past : List HandlerStep) (x : HandlerStep) (f : FollowsIn script exts past x)
     → (n : ℕ) → 1 ≤ n → n ≤ 13 → event_for x.call.handler ≡ n → IsRoot (setting f) x.call x.moment → ⊥
@@ -324,10 +324,10 @@ group_one = (
 one_bound : (script : Script) → IsGroup script → IsBound script IsOne
 one_bound script group = record {
   first = λ e. subst (λ (ds : List EventDef). IsOne e (get_or (map (λ (d : EventDef). d.handlers) ds) e [])) (sym group.events) (one-at 0 group_events group_one e e (omega arith));
-  changed = λ change. subst (λ (cs : List ChangeDef). All (λ (t : TableDef). IsOne t.event.0 t.handlers) (get_or cs change.0 no_change).table) (sym group.changes) (changed change.0);
+  changed = λ change. subst (λ (cs : List ChangeDef). Each (λ (t : TableDef). IsOne t.event.0 t.handlers) (get_or cs change.0 no_change).table) (sym group.changes) (changed change.0);
 }
   where
-    changed : (c : ℕ) → All (λ (t : TableDef). IsOne t.event.0 t.handlers) (get_or group_changes c no_change).table
+    changed : (c : ℕ) → Each (λ (t : TableDef). IsOne t.event.0 t.handlers) (get_or group_changes c no_change).table
     changed zero = ((λ other. omega arith), tt)
     changed (suc zero) = ((λ other. omega arith), tt)
     changed (suc (suc c)) = tt

@@ -10,7 +10,7 @@ use Rattle.samoa_serial.specs.declared.message.Message.{Message}
 use Rattle.samoa_laws.specs.trace.Trace.{trace}
 use Rattle.samoa_laws.specs.trace.Group.{IsFree, IsGroupHistory, IsRebinding, IsWire, event, group_changes, group_decls, group_events, group_micros}
 use Rattle.samoa_laws.specs.order.Boxes.{called_up}
-use Rattle.samoa_laws.specs.trace.Lists.{In}
+use Rattle.samoa_serial.specs.Lists.{In}
 use Rattle.samoa_laws.specs.broadcast.Begun.{AreProposed, IsDecided, WasSubmitted, abcast_steps, begun, begun_by}
 use Rattle.samoa_laws.proofs.broadcast.Agree.{abcast_valid, called_at_end, part_of_itself}
 use Rattle.samoa_laws.proofs.broadcast.Both.{abcast_box}

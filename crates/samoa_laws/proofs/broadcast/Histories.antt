@@ -12,12 +12,12 @@ use Rattle.samoa_model.specs.declared.script.Script.{Script}
 use Rattle.samoa_serial.specs.declared.message.Message.{Message}
 use Rattle.samoa_serial.specs.Rows.{message_at, word}
 use Rattle.samoa_serial.specs.State.{SeqcastState}
-use Rattle.samoa_laws.specs.trace.Lists.{In}
+use Rattle.samoa_serial.specs.Lists.{In}
 use Rattle.samoa_laws.specs.trace.Trace.{HandlerStep, micro_of, trace}
 use Rattle.samoa_laws.specs.trace.Causes.{FollowsIn, IsTrace}
 use Rattle.samoa_laws.specs.trace.Group.{IsGroup, IsGroupHistory, event, handler}
 use Rattle.samoa_laws.specs.trace.Transport.{BeginsAt, IsHeard}
-use Rattle.samoa_laws.proofs.trace.Lists.{in_right}
+use Rattle.samoa_serial.proofs.ListLaws.{in_right}
 use Rattle.samoa_laws.proofs.trace.Points.{trace-is_trace}
 use Rattle.samoa_laws.proofs.trace.Received.{heard}
 use Rattle.samoa_laws.proofs.trace.Steps.{IsAt, before, trace-rest}

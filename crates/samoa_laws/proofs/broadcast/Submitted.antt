@@ -7,12 +7,12 @@ use Rattle.samoa_model.specs.declared.script.Script.{Script}
 use Rattle.samoa_serial.specs.State.{State}
 use Rattle.samoa_serial.specs.declared.message.Message.{Message}
 use Rattle.samoa_serial.specs.Rows.{message_at, word}
-use Rattle.samoa_laws.specs.trace.Lists.{In}
+use Rattle.samoa_serial.specs.Lists.{In}
 use Rattle.samoa_laws.specs.trace.Trace.{HandlerStep, micro_of, trace}
 use Rattle.samoa_laws.specs.trace.Causes.{FollowsIn, IsTrace}
 use Rattle.samoa_laws.specs.trace.Group.{IsGroupHistory, event, handler}
 use Rattle.samoa_laws.specs.trace.Transport.{BeginsAt, IsCalled, IsCast}
-use Rattle.samoa_laws.proofs.trace.Lists.{in_middle, in_right}
+use Rattle.samoa_serial.proofs.ListLaws.{in_middle, in_right}
 use Rattle.samoa_laws.proofs.trace.Received.{upward}
 use Rattle.samoa_laws.proofs.trace.Steps.{before}
 use Rattle.samoa_laws.proofs.trace.Worlds.{event_for, group_setup}

@@ -10,7 +10,7 @@ use Rattle.samoa_model.specs.declared.script.Script.{Script}
 use Rattle.samoa_serial.specs.SerialRun.{ran_of, serial}
 use Rattle.samoa_serial.specs.Whole.{Ran}
 use Rattle.samoa_serial.specs.declared.message.Message.{Message}
-use Rattle.samoa_laws.specs.trace.Lists.{In}
+use Rattle.samoa_serial.specs.Lists.{In}
 use Rattle.samoa_laws.specs.trace.Group.{IsFree, IsGroupHistory, IsRebinding, IsTo, IsWire, change, event, group_changes, group_decls, group_events, group_micros}
 use Rattle.samoa_laws.specs.replacement.Lists.{Comparable}
 use Rattle.samoa_laws.specs.stream.Streams.{stream_at}

@@ -3,10 +3,10 @@ use Rattle.std.proofs.Common.{ℕ, inl, inr, sym, subst, List}
 use Rattle.samoa_model.specs.declared.record.Ext.{Ext}
 use Rattle.samoa_model.specs.declared.script.Script.{Script}
 use Rattle.samoa_serial.specs.declared.message.Message.{Message}
-use Rattle.samoa_laws.specs.trace.Lists as laws
+use Rattle.samoa_serial.specs.Lists as laws
 use Rattle.samoa_laws.specs.trace.Trace.{HandlerStep, trace}
 use Rattle.samoa_laws.specs.trace.Group.{IsGroupHistory}
-use Rattle.samoa_laws.proofs.trace.Lists.{in_middle}
+use Rattle.samoa_serial.proofs.ListLaws.{in_middle}
 use Rattle.samoa_laws.specs.order.Lists as order
 use Rattle.samoa_laws.specs.agreement.Decisions as agreed
 use Rattle.samoa_laws.specs.agreement.Decisions.{decision}

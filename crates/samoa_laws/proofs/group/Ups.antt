@@ -5,10 +5,11 @@ use Rattle.std.proofs.lemmas.List.{map-append}
 use Rattle.samoa_model.specs.declared.handler.Moment.{Moment}
 use Rattle.samoa_serial.specs.Rows.{message_at}
 use Rattle.samoa_serial.specs.declared.message.Message.{Message}
-use Rattle.samoa_laws.specs.trace.Lists as laws
+use Rattle.samoa_serial.specs.Lists as laws
 use Rattle.samoa_laws.specs.trace.Trace.{HandlerStep}
 use Rattle.samoa_laws.specs.order.Lists as order
 use Rattle.samoa_laws.specs.replacement.Lists as list
+use Rattle.samoa_serial.specs.Lists.{In}
 use Rattle.samoa_laws.specs.replacement.Group.{Up, called_by, messages_of}
 use Rattle.samoa_laws.specs.replacement.History.{same_message}
 use Rattle.samoa_laws.specs.broadcast.Begun as broadcasts
@@ -73,7 +74,7 @@ pub record WasBegun (es : List (ℕ × Message)) (c : Up) : Type 0 where
   pub there : laws.In (c.by, c.message) es
   pub by : laws.In c.message (map (λ (e : ℕ × Message). e.1) (filter (λ (e : ℕ × Message). e.0 == c.by) es))
 
-in_pairs : (es : List (ℕ × Message)) (c : Up) → list.In c (map up_of es) → WasBegun es c
+in_pairs : (es : List (ℕ × Message)) (c : Up) → In c (map up_of es) → WasBegun es c
 in_pairs [] c i = absurd i
 in_pairs (e ∷ es) c (inl same) = record { there = inl (ap (λ (d : Up). (d.by, d.message)) same); by = at (e.0 == c.by) refl }
   where
@@ -93,5 +94,5 @@ in_pairs (e ∷ es) c (inr i) = later (in_pairs es c i)
         at true = inr ih.by
         at false = ih.by
 
-pub was_begun : (v : ℕ) (past : List HandlerStep) (c : Up) → list.In c (ups_at v past) → WasBegun (begun v past) c
-was_begun v past c there = in_pairs (begun v past) c (subst (λ (us : List Up). list.In c us) (sym (ups_are v past)) there)
+pub was_begun : (v : ℕ) (past : List HandlerStep) (c : Up) → In c (ups_at v past) → WasBegun (begun v past) c
+was_begun v past c there = in_pairs (begun v past) c (subst (λ (us : List Up). In c us) (sym (ups_are v past)) there)

@@ -8,7 +8,7 @@ use Rattle.samoa_model.specs.declared.handler.Outcome.{Outcome}
 use Rattle.samoa_serial.specs.declared.keys.Key.{Key}
 use Rattle.samoa_serial.specs.declared.message.Message.{Message}
 use Rattle.samoa_model.specs.declared.setup.Setup.{Setup}
-use Rattle.samoa_laws.proofs.order.DrainLaws.{drain_passes}
+use Rattle.samoa_serial.proofs.DrainLaws.{drain_passes}
 use Rattle.samoa_laws.specs.order.Lists.{In}
 use Rattle.samoa_laws.specs.order.Boxes.{noted, raised_by}
 use Rattle.samoa_laws.specs.order.Abcast.{up_to}

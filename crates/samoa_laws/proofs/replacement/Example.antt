@@ -8,7 +8,8 @@ use Rattle.samoa_model.specs.declared.handler.Moment.TheVariants.{Begin, Resume}
 use Rattle.samoa_model.specs.declared.handler.Reply.{Reply}
 use Rattle.samoa_model.specs.declared.setup.Setup.{Setup}
 use Rattle.samoa_serial.specs.declared.message.Message.{Message}
-use Rattle.samoa_laws.specs.replacement.Lists.{Comparable, firsts, unknown, In}
+use Rattle.samoa_laws.specs.replacement.Lists.{Comparable, firsts, unknown}
+use Rattle.samoa_serial.specs.Lists.{In}
 use Rattle.samoa_serial.specs.ReplTable.{repl_step}
 use Rattle.samoa_laws.specs.replacement.History.{Step, left_by, MayCome, Follows, IsHistory, GoesOn, begun, marks, stream, asked, same_message}
 use Rattle.samoa_laws.specs.replacement.Trace.{Item, box_of, ResumesFrom, awaited, ComesAtOnce, IsTrace}

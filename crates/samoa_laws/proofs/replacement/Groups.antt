@@ -4,7 +4,8 @@ use Rattle.std.specs.List.{list_any}
 use Rattle.std.proofs.lemmas.Bool.{cases_order}
 use Rattle.samoa_model.specs.declared.setup.Setup.{Setup}
 use Rattle.samoa_serial.specs.declared.message.Message.{Message}
-use Rattle.samoa_laws.specs.replacement.Lists.{IsPrefix, Comparable, firsts, unknown, EndsOnlyIn, In}
+use Rattle.samoa_laws.specs.replacement.Lists.{IsPrefix, Comparable, firsts, unknown, EndsOnlyIn}
+use Rattle.samoa_serial.specs.Lists.{In}
 use Rattle.samoa_laws.specs.replacement.History.{Step, left_by, given, GoesOn, begun, marks, stream, of_epoch, below, same_message, is_turn, not_turn, said, said_of}
 use Rattle.samoa_laws.specs.replacement.Trace.{Item, box_of, awaited, IsTrace}
 use Rattle.samoa_laws.specs.replacement.Group.{Up, messages_of, called_by, IsGroup, IsOrdered}

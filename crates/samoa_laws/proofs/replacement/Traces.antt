@@ -9,7 +9,7 @@ use Rattle.samoa_model.specs.declared.handler.Reply.{Reply}
 use Rattle.samoa_model.specs.declared.setup.Setup.{Setup}
 use Rattle.samoa_serial.specs.declared.message.Message.{Message}
 use Rattle.samoa_serial.specs.declared.message.Own.{Own}
-use Rattle.samoa_laws.specs.replacement.Lists.{In}
+use Rattle.samoa_serial.specs.Lists.{In}
 use Rattle.samoa_serial.specs.State.{ReplState}
 use Rattle.samoa_serial.specs.Rows.{word, up, me, port_at, done, call, change, deliver, message_at}
 use Rattle.samoa_serial.specs.ReplTable.{first_of, is_change, repl_hand_on, repl_drain, repl_mark, repl_recast, repl_go_on, repl_cast, repl_deliver, repl_switched, repl_marked, repl_deliver_on, repl_step}

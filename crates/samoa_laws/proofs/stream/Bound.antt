@@ -10,7 +10,7 @@ use Rattle.samoa_model.specs.declared.record.Ext.{Ext}
 use Rattle.samoa_model.specs.declared.script.ChangeDef.{ChangeDef}
 use Rattle.samoa_model.specs.declared.script.EventDef.{EventDef}
 use Rattle.samoa_model.specs.declared.script.Script.{Script}
-use Rattle.samoa_laws.specs.trace.Lists.{All}
+use Rattle.samoa_serial.specs.Lists.{Each}
 use Rattle.samoa_laws.specs.trace.Group.{Asking, IsGroup, group_changes, handler, rebinding_of, rebindings_at}
 use Rattle.samoa_laws.specs.stream.Ordered.{broadcast_of, in_place}
 use Rattle.samoa_laws.proofs.stream.Askings.{pair}
@@ -29,7 +29,7 @@ changed-cast zero lt table p is = set-there table 12 (handler 5 0 ∷ []) (handl
 changed-cast (suc zero) lt table p is = set-there table 12 (handler 4 0 ∷ []) (handler p 0) [] is
 changed-cast (suc (suc c)) lt table p is = absurd (omega arith)
 
-cast_from : (script : Script) → IsGroup script → (v : ℕ) (exts : List Ext) → All (IsExtOf script) exts → (table : Table) (p : ℕ) → IsCastTo table p
+cast_from : (script : Script) → IsGroup script → (v : ℕ) (exts : List Ext) → Each (IsExtOf script) exts → (table : Table) (p : ℕ) → IsCastTo table p
     → IsCastTo (table_from script v table exts) (in_place p (rebindings_at v exts))
 cast_from script group v [] known table p is = is
 cast_from script group v (ext ∷ exts) known table p is =
@@ -51,7 +51,7 @@ cast_from script group v (ext ∷ exts) known table p is =
         (changed-cast change.0 lt table p is)))
 
 -- of a node after these admissions
-pub cast_bound : (script : Script) → IsGroup script → (v : ℕ) (exts : List Ext) → All (IsExtOf script) exts
+pub cast_bound : (script : Script) → IsGroup script → (v : ℕ) (exts : List Ext) → Each (IsExtOf script) exts
     → get_or (table_of script exts v) 12 [] ≡ handler (in_place 4 (rebindings_at v exts)) 0 ∷ []
 cast_bound script group v exts known =
     cast_from script group v exts known (first_table script) 4

@@ -16,7 +16,7 @@ use Rattle.samoa_serial.specs.Kinds.{kind_step}
 use Rattle.samoa_serial.specs.Rows.{has_key, me, message_at, message_key, port_at, word}
 use Rattle.samoa_serial.specs.SeqcastTable as sq
 use Rattle.samoa_serial.specs.State.{AbcastState, ConsState, OfAbcast, OfCons, OfSeqcast, SeqcastState, State}
-use Rattle.samoa_laws.specs.trace.Lists.{In}
+use Rattle.samoa_serial.specs.Lists.{In}
 use Rattle.samoa_laws.specs.trace.Causes.{frame_of}
 use Rattle.samoa_laws.specs.trace.Group.{handler}
 use Rattle.samoa_laws.proofs.trace.Shapes.{Asks, AtPort, Casts, Hands, HandsUp, IsDone, IsQuiet, LinkShape, Quiet, RbShape, Relays, Rests, Row, Sends, Silent, either, link-step, rbcast-step}

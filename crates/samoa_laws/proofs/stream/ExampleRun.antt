@@ -8,7 +8,7 @@ use Rattle.samoa_model.specs.declared.record.Cause.{Cause}
 use Rattle.samoa_model.specs.declared.record.Ext.{Ext}
 use Rattle.samoa_model.specs.declared.script.Script.{Script}
 use Rattle.samoa_serial.specs.SerialRun.{ran_of, serial}
-use Rattle.samoa_laws.specs.trace.Lists.{In}
+use Rattle.samoa_serial.specs.Lists.{In}
 use Rattle.samoa_laws.specs.trace.Trace.{HandlerStep, micro_of, trace}
 use Rattle.samoa_laws.specs.trace.Group.{IsFree, IsGroupHistory, IsRebinding, IsWire, change, event, group_changes, group_decls, group_events, group_micros, handler}
 use Rattle.std.specs.List.{list_all}
@@ -282,18 +282,18 @@ second_given = record {
   message = refl;
 }
 
-one_given : (c : Up) → list.In c (first_up ∷ second_up ∷ []) → WasSubmitted (trace script exts) c
+one_given : (c : Up) → In c (first_up ∷ second_up ∷ []) → WasSubmitted (trace script exts) c
 one_given c (inl e) = subst (λ (d : Up). WasSubmitted (trace script exts) d) (sym e) first_given
 one_given c (inr (inl e)) = subst (λ (d : Up). WasSubmitted (trace script exts) d) (sym e) second_given
 one_given c (inr (inr out)) = absurd out
 
 submitted_at : (past : List HandlerStep) → ups_at 0 past ≡ first_up ∷ second_up ∷ [] → ((v : ℕ) → 0 ≢ v → ups_at v past ≡ [])
-    → ((c : Up) → list.In c (first_up ∷ second_up ∷ []) → WasSubmitted past c) → (v : ℕ) (c : Up) → list.In c (ups_at v past) → WasSubmitted past c
+    → ((c : Up) → In c (first_up ∷ second_up ∷ []) → WasSubmitted past c) → (v : ℕ) (c : Up) → In c (ups_at v past) → WasSubmitted past c
 submitted_at past at_zero none given v c there = go (eqb_tells 0 v)
   where
     go : ((0 == v) ≡ true) × (0 ≡ v) ⊎ ((0 == v) ≡ false) × (0 ≢ v) → WasSubmitted past c
-    go (inl same) = given c (subst (λ (l : List Up). list.In c l) at_zero (subst (λ (u : ℕ). list.In c (ups_at u past)) (sym same.1) there))
-    go (inr other) = absurd (subst (λ (l : List Up). list.In c l) (none v other.1) there)
+    go (inl same) = given c (subst (λ (l : List Up). In c l) at_zero (subst (λ (u : ℕ). In c (ups_at u past)) (sym same.1) there))
+    go (inr other) = absurd (subst (λ (l : List Up). In c l) (none v other.1) there)
 
 submitted : AreSubmitted script exts
 submitted = submitted_at (trace script exts) ups elsewhere one_given

@@ -8,7 +8,7 @@ use Rattle.samoa_model.specs.declared.script.ChangeDef.{ChangeDef}
 use Rattle.samoa_model.specs.declared.script.EventDef.{EventDef}
 use Rattle.samoa_model.specs.declared.script.Script.{Script}
 use Rattle.samoa_model.specs.declared.script.TableDef.{TableDef}
-use Rattle.samoa_laws.specs.trace.Lists.{All}
+use Rattle.samoa_serial.specs.Lists.{Each}
 use Rattle.samoa_laws.specs.trace.Trace.{HandlerStep}
 use Rattle.samoa_laws.specs.trace.Causes.{FollowsIn}
 use Rattle.samoa_laws.specs.trace.Group.{IsGroup, group_changes, group_events, handler}
@@ -50,7 +50,7 @@ cast-listed hs which = record {
   switched = λ is. absurd (omega (arith, is));
 }
 
-change-listed : (c : ℕ) → All (λ (t : TableDef). IsListed t.event.0 t.handlers) (get_or group_changes c no_change).table
+change-listed : (c : ℕ) → Each (λ (t : TableDef). IsListed t.event.0 t.handlers) (get_or group_changes c no_change).table
 change-listed zero = (cast-listed _ (inr refl), tt)
 change-listed (suc zero) = (cast-listed _ (inl refl), tt)
 change-listed (suc (suc c)) = tt
@@ -58,7 +58,7 @@ change-listed (suc (suc c)) = tt
 all-listed : (script : Script) → IsGroup script → IsBound script IsListed
 all-listed script group = record {
   first = λ e. subst (λ (ds : List EventDef). IsListed e (get_or (map (λ (d : EventDef). d.handlers) ds) e [])) (sym group.events) (first-listed e);
-  changed = λ change. subst (λ (cs : List ChangeDef). All (λ (t : TableDef). IsListed t.event.0 t.handlers) (get_or cs change.0 no_change).table) (sym group.changes) (change-listed change.0);
+  changed = λ change. subst (λ (cs : List ChangeDef). Each (λ (t : TableDef). IsListed t.event.0 t.handlers) (get_or cs change.0 no_change).table) (sym group.changes) (change-listed change.0);
 }
 
 -- the handlers of an event in a computation

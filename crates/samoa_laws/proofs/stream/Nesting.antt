@@ -10,11 +10,11 @@ use Rattle.samoa_model.specs.declared.script.Script.{Script}
 use Rattle.samoa_serial.specs.ReplTable.{repl_step}
 use Rattle.samoa_serial.specs.Rows.{port_at}
 use Rattle.samoa_serial.specs.declared.call.Call.{Call}
-use Rattle.samoa_laws.specs.trace.Lists.{All, In}
+use Rattle.samoa_serial.specs.Lists.{Each, In}
 use Rattle.samoa_laws.specs.trace.Trace.{HandlerStep, micro_of}
 use Rattle.samoa_laws.specs.trace.Causes.{FollowsIn, GoesOn, IsTrace, Resumes, frame_of}
 use Rattle.samoa_laws.specs.trace.Group.{IsGroup, handler}
-use Rattle.samoa_laws.proofs.trace.Lists.{all_map, in_left}
+use Rattle.samoa_serial.proofs.ListLaws.{each_weaker, in_left}
 use Rattle.samoa_laws.proofs.trace.Nested.{nested-all}
 use Rattle.samoa_laws.proofs.trace.Steps.{Before, IsAt, before, setting, trace-rest}
 use Rattle.samoa_laws.proofs.trace.Worlds.{outcome_is}
@@ -29,7 +29,7 @@ use Rattle.samoa_laws.proofs.stream.Listed.{listed}
 use Rattle.samoa_laws.proofs.stream.Views.{carried_is, resumes, step-index}
 
 -- steps elsewhere leave the history of the box as it is
-pub repl_at-passes : (v : ℕ) (steps past : List HandlerStep) → All (λ (z : HandlerStep). micro_of z ≢ 6) steps → repl_at v (steps ++ past) ≡ repl_at v past
+pub repl_at-passes : (v : ℕ) (steps past : List HandlerStep) → Each (λ (z : HandlerStep). micro_of z ≢ 6) steps → repl_at v (steps ++ past) ≡ repl_at v past
 repl_at-passes v [] past all = refl
 repl_at-passes v (z ∷ steps) past all = go (here_or_away v z) (repl_at-passes v steps past all.1)
   where
@@ -49,7 +49,7 @@ pub record SwitchedFrom (script : Script) (exts : List Ext) (v : ℕ) (past : Li
   pub arg : List ℕ
   pub frame : List ℕ
   pub calls : last.outcome ≡ Outcome.Call (port_at (repl_setup script v) 0) arg frame
-  pub alone : All (λ (z : HandlerStep). micro_of z ≢ 6) since
+  pub alone : Each (λ (z : HandlerStep). micro_of z ≢ 6) since
 
 pub switched_from : (script : Script) (exts : List Ext) → IsGroup script → (v : ℕ) (past : List HandlerStep) (x : HandlerStep) → IsTrace script exts past
     → (f : FollowsIn script exts past x) → IsAt x v 6 → (frame : List ℕ) (reply : Reply) → x.moment ≡ Moment.Resume 2 frame reply → SwitchedFrom script exts v past
@@ -64,7 +64,7 @@ switched_from script exts group v past x trace f at frame reply e = record {
   arg = calls.0;
   frame = calls.1;
   calls = m.outcome ∙ calls.2;
-  alone = all_map (λ (z : HandlerStep). Down z.call.handler z.moment) (λ (z : HandlerStep). micro_of z ≢ 6) (λ z d. not_repl z.call.handler z.moment d) r.since within;
+  alone = each_weaker (λ (z : HandlerStep). Down z.call.handler z.moment) (λ (z : HandlerStep). micro_of z ≢ 6) (λ z d. not_repl z.call.handler z.moment d) r.since within;
 }
   where
     r : Resumes (setting f) past x.call x.moment
@@ -119,7 +119,7 @@ switched_from script exts group v past x trace f at frame reply e = record {
     step_before : (z : HandlerStep) → In z r.since → Before script exts past z
     step_before z there = before script exts past z trace (subst (λ (zs : List HandlerStep). In z zs) (sym r.split) (in_left z r.since (r.last ∷ r.before) there))
 
-    within : All (λ (z : HandlerStep). Down z.call.handler z.moment) r.since
+    within : Each (λ (z : HandlerStep). Down z.call.handler z.moment) r.since
     within =
         nested-all (setting f) Down r.last r.since first
         (record {

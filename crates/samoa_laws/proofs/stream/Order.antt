@@ -18,6 +18,7 @@ use Rattle.samoa_laws.proofs.trace.Points.{point, trace-is_trace}
 use Rattle.samoa_laws.proofs.trace.Steps.{Before, before}
 use Rattle.samoa_laws.proofs.trace.Worlds.{event_for}
 use Rattle.samoa_laws.specs.replacement.Lists as list
+use Rattle.samoa_serial.specs.Lists.{In}
 use Rattle.samoa_laws.specs.replacement.Lists.{Comparable, IsPrefix, firsts, unknown}
 use Rattle.samoa_laws.specs.replacement.Group.{IsGroup as AreBoxes, IsOrdered, Up, called_by, messages_of}
 use Rattle.samoa_laws.specs.replacement.History.{IsHistory, Step, asked, asked_at, begun, begun_in, below, last_value, left_by, marks, same_message, stream, up_to}
@@ -211,7 +212,7 @@ called script exts history c s = (w, reached, by)
         ∙ ap (λ (e : ℕ). protocol e (below e (marks final))) (sym epoch_is))
 
 -- nothing comes by any other
-none_by : (p : ℕ) (ups : List Up) → ((c : Up) → list.In c ups → c.by ≢ p) → called_by p ups ≡ []
+none_by : (p : ℕ) (ups : List Up) → ((c : Up) → In c ups → c.by ≢ p) → called_by p ups ≡ []
 none_by p [] none = refl
 none_by p (c ∷ ups) none = go (eqb_tells c.by p) (none_by p ups (λ d there. none d (inr there)))
   where

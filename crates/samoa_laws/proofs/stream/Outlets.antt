@@ -16,7 +16,7 @@ use Rattle.samoa_serial.specs.State.{LinkState, OfFd, OfLink, OfSeqcast, OfViews
 use Rattle.samoa_serial.specs.ViewsTable as vi
 use Rattle.samoa_serial.specs.declared.message.Message.{Message}
 use Rattle.samoa_serial.specs.declared.message.Watch.{Watch}
-use Rattle.samoa_laws.specs.trace.Lists.{All}
+use Rattle.samoa_serial.specs.Lists.{Each}
 use Rattle.samoa_laws.proofs.trace.Shapes.{AbCasts, AbHandsOn, AbNothing, AbProposes, AbSays, Asks, AtPort, Casts, ConsAnnounces, ConsDecides, ConsNothing, ConsSays, ConsTells, Hands, HandsUp, IsDone, IsQuiet, LinkShape, Quiet, RbShape, Relays, Rests, Row, Sends, Silent, Talks, abcast-step, cons-step, either, either_outcome, fd-step, link-step, rbcast-step, repl-step, seqcast-step, views-step}
 use Rattle.samoa_laws.proofs.trace.Received.{no_box}
 use Rattle.samoa_laws.proofs.trace.Worlds.{group_micro, group_setup, setup_from}
@@ -192,7 +192,7 @@ kind_now nodes v (suc (suc (suc (suc (suc (suc (suc zero))))))) s m = asks_now (
 kind_now nodes v (suc (suc (suc (suc (suc (suc (suc (suc p)))))))) s m = asks_now (setup_from nodes v no_micro) _ _ (no_box nodes v s m)
 
 -- ---- the events at the ports
-port_holds : (P : ℕ → Type 0) (ports : List EventId) (port : ℕ) → P 0 → All (λ (e : EventId). P e.0) ports → P (slice_index_or ports port (record { 0 = 0 })).0
+port_holds : (P : ℕ → Type 0) (ports : List EventId) (port : ℕ) → P 0 → Each (λ (e : EventId). P e.0) ports → P (slice_index_or ports port (record { 0 = 0 })).0
 port_holds P [] port none all = none
 port_holds P (e ∷ es) zero none all = all.0
 port_holds P (e ∷ es) (suc port) none all = port_holds P es port none all.1
@@ -201,7 +201,7 @@ port_holds P (e ∷ es) (suc port) none all = port_holds P es port none all.1
 pub port_no_switch : (nodes v p port : ℕ) → (port_at (group_setup nodes v p) port).0 ≢ 18
 port_no_switch nodes v p port = port_holds (λ e. e ≢ 18) (group_micro p).ports port (λ e. omega (arith, e)) (ports p)
   where
-    ports : (p : ℕ) → All (λ (e : EventId). e.0 ≢ 18) (group_micro p).ports
+    ports : (p : ℕ) → Each (λ (e : EventId). e.0 ≢ 18) (group_micro p).ports
     ports zero = (λ e. omega (arith, e), (λ e. omega (arith, e), (λ e. omega (arith, e), (λ e. omega (arith, e), (λ e. omega (arith, e), tt)))))
     ports (suc zero) = (λ e. omega (arith, e), (λ e. omega (arith, e), tt))
     ports (suc (suc zero)) = (λ e. omega (arith, e), (λ e. omega (arith, e), tt))
@@ -216,7 +216,7 @@ port_no_switch nodes v p port = port_holds (λ e. e ≢ 18) (group_micro p).port
 pub port_cast : (nodes v p port : ℕ) → (port_at (group_setup nodes v p) port).0 ≡ 12 → p ≡ 6
 port_cast nodes v p port = port_holds (λ e. e ≡ 12 → p ≡ 6) (group_micro p).ports port (λ e. absurd (omega (arith, e))) (ports p)
   where
-    ports : (p : ℕ) → All (λ (e : EventId). e.0 ≡ 12 → p ≡ 6) (group_micro p).ports
+    ports : (p : ℕ) → Each (λ (e : EventId). e.0 ≡ 12 → p ≡ 6) (group_micro p).ports
     ports zero = (
       λ e. absurd (omega (arith, e)),
       (λ e. absurd (omega (arith, e)), (λ e. absurd (omega (arith, e)), (λ e. absurd (omega (arith, e)), (λ e. absurd (omega (arith, e)), tt)))),

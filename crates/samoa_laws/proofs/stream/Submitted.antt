@@ -15,12 +15,12 @@ use Rattle.samoa_serial.specs.ReplTable as re
 use Rattle.samoa_serial.specs.Rows.{message_at, port_at, up, word}
 use Rattle.samoa_serial.specs.State.{ReplState}
 use Rattle.samoa_serial.specs.declared.message.Message.{Message}
-use Rattle.samoa_laws.specs.trace.Lists.{All, In}
+use Rattle.samoa_serial.specs.Lists.{Each, In}
 use Rattle.samoa_laws.specs.trace.Trace.{HandlerStep, micro_of}
 use Rattle.samoa_laws.specs.trace.Causes.{Cause, FollowsIn, IsTrace, Setting}
 use Rattle.samoa_laws.specs.trace.Group.{IsFree, IsGroupHistory, IsRebinding, IsWire, event, handler, rebindings_at}
 use Rattle.samoa_laws.proofs.trace.Accepted.{kind_port}
-use Rattle.samoa_laws.proofs.trace.Lists.{all_in}
+use Rattle.samoa_serial.proofs.ListLaws.{each_in}
 use Rattle.samoa_laws.proofs.trace.Shapes.{Asks, AtPort, IsQuiet, Quiet, Row, either, either_outcome}
 use Rattle.samoa_laws.proofs.trace.Steps.{Before, IsAt, before, same_setting, setting}
 use Rattle.samoa_laws.proofs.trace.Worlds.{bound_stands, event_for, group_setup, outcome_is}
@@ -119,7 +119,7 @@ pub record GivenBy (script : Script) (exts : List Ext) (past : List HandlerStep)
   pub twelve : event.0 ≡ 12
   pub bound : h ≡ handler (in_place 4 (rebindings_at step.node (part.follows.before ++ part.follows.ext ∷ []))) 0
 
-all_left : (P : Ext → Type 0) (xs ys : List Ext) → All P (xs ++ ys) → All P xs
+all_left : (P : Ext → Type 0) (xs ys : List Ext) → Each P (xs ++ ys) → Each P xs
 all_left P [] ys all = tt
 all_left P (x ∷ xs) ys all = (all.0, all_left P xs ys all.1)
 
@@ -134,7 +134,7 @@ given_by script exts history past x t f at arg e = go f.follows.cause
     h = x.call.handler
 
     stands : (k : EventId) → In h (S.handlers k) → k.0 ≡ 12
-    stands k bound = sym (all_in (λ (g : HandlerId). event_for g ≡ k.0) (S.handlers k) h (bound_stands script exts history.group past x f k) bound) ∙ at
+    stands k bound = sym (each_in (λ (g : HandlerId). event_for g ≡ k.0) (S.handlers k) h (bound_stands script exts history.group past x f k) bound) ∙ at
 
     one : (p : ℕ) (hs : List HandlerId) → hs ≡ handler p 0 ∷ [] → In h hs → h ≡ handler p 0
     one p hs is there = first (subst (λ (xs : List HandlerId). In h xs) is there)
@@ -178,10 +178,10 @@ given_by script exts history past x t f at arg e = go f.follows.cause
         admitted : List Ext
         admitted = b.follows.before ++ b.follows.ext ∷ []
 
-        known : All (IsExtOf script) admitted
+        known : Each (IsExtOf script) admitted
         known =
             all_left (IsExtOf script) admitted b.follows.later
-            (subst (All (IsExtOf script)) (b.follows.admitted ∙ sym (append_assoc b.follows.before (b.follows.ext ∷ []) b.follows.later)) history.known)
+            (subst (Each (IsExtOf script)) (b.follows.admitted ∙ sym (append_assoc b.follows.before (b.follows.ext ∷ []) b.follows.later)) history.known)
     go (Cause.Deferred y there calls) =
         let b : Before script exts past y = before script exts past y t there in
         absurd (subst NotLater (sym (outcome_is script exts history.group b.earlier y b.follows) ∙ calls.outcome) (kind_now script.nodes y.node (micro_of y) y.old y.moment))

@@ -14,12 +14,12 @@ use Rattle.samoa_model.specs.declared.script.ChangeDef.{ChangeDef}
 use Rattle.samoa_model.specs.declared.script.Decl.{Decl}
 use Rattle.samoa_model.specs.declared.script.Script.{Script}
 use Rattle.samoa_serial.specs.SerialRun.{rules_of}
-use Rattle.samoa_laws.specs.trace.Lists.{All, In}
+use Rattle.samoa_serial.specs.Lists.{Each, In}
 use Rattle.samoa_laws.specs.trace.Trace.{HandlerStep, micro_of, trace}
 use Rattle.samoa_laws.specs.trace.Causes.{BeginsFirst, Calls, Comes, FollowsIn, IsFirst, IsNext, IsNextIn, IsTrace, Setting}
 use Rattle.samoa_laws.specs.trace.Group.{Asking, IsFree, IsGroup, IsGroupHistory, IsRebinding, IsWire, event, group_changes, handler, rebinding_of, rebindings_at}
 use Rattle.samoa_laws.proofs.trace.Accepted.{group_decl, kind_port}
-use Rattle.samoa_laws.proofs.trace.Lists.{all_in, in_middle}
+use Rattle.samoa_serial.proofs.ListLaws.{each_in, in_middle}
 use Rattle.samoa_laws.proofs.trace.Points.{Adds, Point, adds_at, point_at}
 use Rattle.samoa_laws.proofs.trace.Steps.{Before, IsAt, before, same_admission, setting, trace-rest}
 use Rattle.samoa_laws.proofs.trace.Worlds.{bound_stands, event_for, outcome_is}
@@ -67,7 +67,7 @@ switch_begin script exts group v past x t f at begins = go f.follows.comes
 
     stands : (e : EventId) → In h (S.handlers e) → e.0 ≡ 18
     stands e bound =
-        sym (all_in (λ (g : HandlerId). event_for g ≡ e.0) (S.handlers e) h (bound_stands script exts group past x f e) bound) ∙ ap event_for is
+        sym (each_in (λ (g : HandlerId). event_for g ≡ e.0) (S.handlers e) h (bound_stands script exts group past x f e) bound) ∙ ap event_for is
 
     not_called : (y : HandlerStep) → In y past → Calls S y x.call x.moment → SwitchBegin script exts past x f
     not_called y there calls =
@@ -83,7 +83,7 @@ switch_begin script exts group v past x t f at begins = go f.follows.comes
         none [] e = e
         none (b ∷ own) e =
             let there : In b past = subst (λ (zs : List HandlerStep). In b zs) (sym f.over) (subst (λ (zs : List HandlerStep). In b (zs ++ trace script f.before)) (sym e) (inl refl)) in
-            let comp : b.comp ≡ S.comp = (subst (λ (zs : List HandlerStep). All (λ (y : HandlerStep). (y.comp ≡ length f.before) × (y.node ≡ f.ext.node.0)) zs) e f.own_steps).0.0 in
+            let comp : b.comp ≡ S.comp = (subst (λ (zs : List HandlerStep). Each (λ (y : HandlerStep). (y.comp ≡ length f.before) × (y.node ≡ f.ext.node.0)) zs) e f.own_steps).0.0 in
             let less : b.comp < S.comp = first b there in
             absurd (omega (arith, less, comp))
     go (Comes.AsOther o) =
@@ -125,7 +125,7 @@ rebinding_root script exts history before ext later is r =
     changed (suc (suc c)) lt = absurd (omega arith)
 
     known : IsExtOf script ext
-    known = all_in (IsExtOf script) exts ext history.known (subst (λ (xs : List Ext). In ext xs) (sym is) (in_middle ext before later))
+    known = each_in (IsExtOf script) exts ext history.known (subst (λ (xs : List Ext). In ext xs) (sym is) (in_middle ext before later))
 
     in_range : r.change.0 < length script.changes
     in_range = subst (IsCauseOf script) r.cause known.cause
@@ -134,7 +134,7 @@ rebinding_root script exts history before ext later is r =
     lt = subst (λ (cs : List ChangeDef). r.change.0 < length cs) history.group.changes in_range
 
 -- ---- how often it begins
-quiet-switches : (v : ℕ) (steps past : List HandlerStep) → All (λ (x : HandlerStep). switch_here v x ≡ false) steps → switches (repl_at v (steps ++ past)) ≡ switches (repl_at v past)
+quiet-switches : (v : ℕ) (steps past : List HandlerStep) → Each (λ (x : HandlerStep). switch_here v x ≡ false) steps → switches (repl_at v (steps ++ past)) ≡ switches (repl_at v past)
 quiet-switches v [] past all = refl
 quiet-switches v (x ∷ steps) past all = go (is_repl v x) all.0 ∙ quiet-switches v steps past all.1
   where
@@ -167,7 +167,7 @@ of script exts before ext later is past x f comp =
     record { before_is = same.0; ext_is = same.1 }
 
 abbrev pub Own : List Ext → Ext → List HandlerStep → Type 0
-Own before ext own = All (λ (b : HandlerStep). (b.comp ≡ length before) × (b.node ≡ ext.node.0)) own
+Own before ext own = Each (λ (b : HandlerStep). (b.comp ≡ length before) × (b.node ≡ ext.node.0)) own
 
 -- the test of a step that begins it, or of one that does not
 pub record Switching (v : ℕ) (x : HandlerStep) : Type 0 where
@@ -185,7 +185,7 @@ switching v x = go (here_or_away v x) (begins_switch x.moment) refl
 -- none where the computation is no rebinding here
 none_switch : (script : Script) (exts : List Ext) → IsGroup script → (v : ℕ) (before : List Ext) (ext : Ext) (later : List Ext) → exts ≡ before ++ ext ∷ later
     → (v ≡ ext.node.0 → (root_of script ext.cause).0 ≡ 18 → ⊥) → (own : List HandlerStep) → Own before ext own → IsTrace script exts (own ++ trace script before)
-    → All (λ (x : HandlerStep). switch_here v x ≡ false) own
+    → Each (λ (x : HandlerStep). switch_here v x ≡ false) own
 none_switch script exts group v before ext later is other [] all t = tt
 none_switch script exts group v before ext later is other (x ∷ own) all t =
     (go (switching v x), none_switch script exts group v before ext later is other own all.1 t.1)
@@ -200,7 +200,7 @@ none_switch script exts group v before ext later is other (x ∷ own) all t =
 -- none after the first step
 later_switch : (script : Script) (exts : List Ext) → IsGroup script → (v : ℕ) (before : List Ext) (ext : Ext) (later : List Ext) → exts ≡ before ++ ext ∷ later
     → (b : HandlerStep) (own : List HandlerStep) → Own before ext own → IsTrace script exts (own ++ b ∷ trace script before)
-    → All (λ (x : HandlerStep). switch_here v x ≡ false) own
+    → Each (λ (x : HandlerStep). switch_here v x ≡ false) own
 later_switch script exts group v before ext later is b [] all t = tt
 later_switch script exts group v before ext later is b (x ∷ own) all t =
     (go (switching v x), later_switch script exts group v before ext later is b own all.1 t.1)
@@ -232,7 +232,7 @@ last_of (x ∷ y ∷ own) ne =
 -- the first step of a rebinding begins it
 first_switch : (script : Script) (exts : List Ext) → IsGroup script → (before : List Ext) (ext : Ext) (later : List Ext) → exts ≡ before ++ ext ∷ later
     → root_of script ext.cause ≡ event 18 → (b : HandlerStep) → b.comp ≡ length before → b.node ≡ ext.node.0 → (f : FollowsIn script exts (trace script before) b)
-    → All (λ (y : HandlerStep). y.comp < length before) (trace script before) → switch_here ext.node.0 b ≡ true
+    → Each (λ (y : HandlerStep). y.comp < length before) (trace script before) → switch_here ext.node.0 b ≡ true
 first_switch script exts group before ext later is root b comp node f earlier = go (trace script before) refl f.follows.next
   where
     S : Setting
@@ -259,7 +259,7 @@ first_switch script exts group before ext later is root b comp node f earlier = 
         one : IsNext S y b.call b.moment ⊎ IsFirst S (y ∷ past) b.call b.moment → switch_here ext.node.0 b ≡ true
         one (inr first) = begun first.begins
         one (inl on) =
-            let less : y.comp < length before = (subst (λ (zs : List HandlerStep). All (λ (z : HandlerStep). z.comp < length before) zs) e earlier).0 in
+            let less : y.comp < length before = (subst (λ (zs : List HandlerStep). Each (λ (z : HandlerStep). z.comp < length before) zs) e earlier).0 in
             let same : y.comp ≡ length before = on.acts.comp ∙ ap (λ (xs : List Ext). length xs) o.before_is in
             absurd (omega (arith, less, same))
 
@@ -317,7 +317,7 @@ count_in script exts history v before ext later is own steps t some = go (eqb_te
         ap (λ (zs : List HandlerStep). zs ++ trace script before) l.is ∙ append_assoc l.front (l.last ∷ []) (trace script before) in
         let whole : IsTrace script exts (l.front ++ l.last ∷ trace script before) = subst (IsTrace script exts) split t in
         let owned : Own before ext (l.front ++ l.last ∷ []) = subst (λ (zs : List HandlerStep). Own before ext zs) l.is steps in
-        let mine : (l.last.comp ≡ length before) × (l.last.node ≡ ext.node.0) = all_in _ (l.front ++ l.last ∷ []) l.last owned (in_middle l.last l.front []) in
+        let mine : (l.last.comp ≡ length before) × (l.last.node ≡ ext.node.0) = each_in _ (l.front ++ l.last ∷ []) l.last owned (in_middle l.last l.front []) in
         let f : IsTrace script exts (l.last ∷ trace script before) = trace-rest script exts l.front (l.last ∷ trace script before) whole in
         let p : Point script exts before = point_at script exts before (ext ∷ later) is in
         let first : switch_here v l.last ≡ true =

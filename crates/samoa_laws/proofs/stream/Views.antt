@@ -10,11 +10,11 @@ use Rattle.samoa_serial.specs.declared.call.Call.{Call}
 use Rattle.samoa_serial.specs.ReplTable.{repl_step}
 use Rattle.samoa_serial.specs.State.{ReplState}
 use Rattle.samoa_serial.specs.World.{resume}
-use Rattle.samoa_laws.specs.trace.Lists.{In}
+use Rattle.samoa_serial.specs.Lists.{In}
 use Rattle.samoa_laws.specs.trace.Trace.{HandlerStep, is_done}
 use Rattle.samoa_laws.specs.trace.Causes.{Cause, EndsWell, FollowsIn, GoesOn, IsNext, IsTrace, Leads, Resumes, Setting, frame_of}
 use Rattle.samoa_laws.specs.trace.Group.{IsGroup}
-use Rattle.samoa_laws.proofs.trace.Lists.{all_in, in_middle}
+use Rattle.samoa_serial.proofs.ListLaws.{each_in, in_middle}
 use Rattle.samoa_laws.proofs.trace.Nested.{nested-numbers}
 use Rattle.samoa_laws.proofs.trace.Steps.{Before, IsAt, before, goes_on_at_once, setting}
 use Rattle.samoa_laws.specs.replacement.Lists as box
@@ -62,7 +62,7 @@ record Seen (v : ℕ) (steps : List HandlerStep) (i : Item) : Type 0 where
   there : In step steps
   is : i ≡ item v step
 
-seen_in : (v : ℕ) (steps : List HandlerStep) (i : Item) → box.In i (items v steps) → Seen v steps i
+seen_in : (v : ℕ) (steps : List HandlerStep) (i : Item) → In i (items v steps) → Seen v steps i
 seen_in v [] i there = absurd there
 seen_in v (x ∷ steps) i (inl e) = record { step = x; there = inl refl; is = e }
 seen_in v (x ∷ steps) i (inr there) = let s = seen_in v steps i there in record { step = s.step; there = inr s.there; is = s.is }
@@ -109,7 +109,7 @@ resumed_from script exts v past x trace f at handler frame reply e = record {
     apart : (j : Item) → Seen v r.since j → SameCall (item v r.last) j → ⊥
     apart j s same =
         let less : r.last.call.number < s.step.call.number =
-        all_in (λ (z : HandlerStep). r.last.call.number < z.call.number) r.since s.step (nested-numbers (setting f) r.last r.since r.nested) s.there in
+        each_in (λ (z : HandlerStep). r.last.call.number < z.call.number) r.since s.step (nested-numbers (setting f) r.last r.since r.nested) s.there in
         let is : r.last.call.number ≡ s.step.call.number = same.call ∙ ap (λ (k : Item). k.call) s.is in
         omega arith
 

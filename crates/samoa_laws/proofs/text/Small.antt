@@ -15,10 +15,11 @@ use Rattle.samoa_serial.specs.Rows.{word}
 use Rattle.samoa_serial.specs.declared.message.Message.{Message}
 use Rattle.samoa_laws.specs.trace.Trace.{HandlerStep, trace}
 use Rattle.samoa_laws.specs.trace.Group.{IsGroupHistory, event_for, handler}
-use Rattle.samoa_laws.proofs.trace.Lists.{all_in, in_middle}
+use Rattle.samoa_serial.proofs.ListLaws.{each_in, in_middle}
 use Rattle.samoa_laws.proofs.trace.Points.{trace-is_trace}
 use Rattle.samoa_laws.proofs.trace.Steps.{Before, before}
-use Rattle.samoa_laws.specs.replacement.Lists.{IsApart, In}
+use Rattle.samoa_laws.specs.replacement.Lists.{IsApart}
+use Rattle.samoa_serial.specs.Lists.{In}
 use Rattle.samoa_laws.specs.replacement.Group.{IsOrdered, Up, messages_of}
 use Rattle.samoa_laws.specs.replacement.History.{begin_alike, left_by, said}
 use Rattle.samoa_laws.specs.stream.Ordered.{IsBroadcast, WasSubmitted, protocol, ups_at}
@@ -68,7 +69,7 @@ node_small : (script : Script) (exts : List Ext) → IsInRange script → IsGrou
     → y.node < 2 ^ 64
 node_small script exts range history past y b =
     let known : IsExtOf script b.follows.ext =
-    all_in (IsExtOf script) exts b.follows.ext history.known
+    each_in (IsExtOf script) exts b.follows.ext history.known
     (subst (λ (xs : List Ext). In b.follows.ext xs) (sym b.follows.admitted) (in_middle b.follows.ext b.follows.before b.follows.later)) in
     let here : y.node ≡ b.follows.ext.node.0 = b.follows.follows.node in
     let few : script.nodes ≤ 8 = range.few_nodes in

@@ -22,12 +22,12 @@ use Rattle.samoa_serial.specs.Kinds.{kind_step}
 use Rattle.samoa_serial.specs.Rows.{port_at}
 use Rattle.samoa_serial.specs.State.{State}
 use Rattle.samoa_serial.specs.World.{handler_of}
-use Rattle.samoa_laws.specs.trace.Lists.{All}
+use Rattle.samoa_serial.specs.Lists.{Each}
 use Rattle.samoa_laws.specs.trace.Trace.{HandlerStep, is_done, micro_of, trace}
 use Rattle.samoa_laws.specs.trace.Causes.{BeginsFirst, FollowsIn, IsNext, IsRefused, IsSmall, IsTrace, Leads}
 use Rattle.samoa_laws.specs.trace.Group.{IsGroup, IsGroupHistory, group_changes, group_events}
 use Rattle.samoa_laws.proofs.trace.Counts.{trace-length}
-use Rattle.samoa_laws.proofs.trace.Lists.{all_map}
+use Rattle.samoa_serial.proofs.ListLaws.{each_weaker}
 use Rattle.samoa_laws.proofs.trace.Steps.{goes_on_at_once, setting, trace-rest}
 use Rattle.samoa_laws.proofs.trace.Tables.{IsBound, never_refused, table-holds}
 use Rattle.samoa_laws.proofs.trace.Shapes.{AbCasts, AbHandsOn, AbNothing, AbProposes, AbSays, Asks, AtPort, Casts, ConsAnnounces, ConsDecides, ConsNothing, ConsSays, ConsTells, Hands, HandsUp, IsDone, IsQuiet, LinkShape, Quiet, RbShape, Relays, Rests, Sends, Silent, Talks, abcast-step, cons-step, fd-step, link-step, rbcast-step, repl-step, seqcast-step, views-step}
@@ -97,7 +97,7 @@ kind_port nodes v (suc (suc (suc (suc (suc (suc (suc zero))))))) s m = asks_port
 kind_port nodes v (suc (suc (suc (suc (suc (suc (suc (suc p)))))))) s m = asks_port (setup_from nodes v no_micro) _ _ (no_box nodes v s m)
 
 -- every port is an event of the stack
-small_at : (ports : List EventId) (port : ℕ) → All (λ (e : EventId). e.0 < 19) ports → (slice_index_or ports port (record { 0 = 0 })).0 < 19
+small_at : (ports : List EventId) (port : ℕ) → Each (λ (e : EventId). e.0 < 19) ports → (slice_index_or ports port (record { 0 = 0 })).0 < 19
 small_at [] port all = omega arith
 small_at (e ∷ es) zero all = all.0
 small_at (e ∷ es) (suc port) all = small_at es port all.1
@@ -105,7 +105,7 @@ small_at (e ∷ es) (suc port) all = small_at es port all.1
 port_small : (nodes v p port : ℕ) → (port_at (group_setup nodes v p) port).0 < 19
 port_small nodes v p port = small_at (group_micro p).ports port (ports p)
   where
-    ports : (p : ℕ) → All (λ (e : EventId). e.0 < 19) (group_micro p).ports
+    ports : (p : ℕ) → Each (λ (e : EventId). e.0 < 19) (group_micro p).ports
     ports zero = (omega arith, (omega arith, (omega arith, (omega arith, (omega arith, tt)))))
     ports (suc zero) = (omega arith, (omega arith, tt))
     ports (suc (suc zero)) = (omega arith, (omega arith, tt))
@@ -122,13 +122,13 @@ IsSomeList [] = ⊥
 IsSomeList (h ∷ hs) = ⊤
 
 abbrev pub IsServed : ℕ → List HandlerId → Type 0
-IsServed e hs = (e < 19 → IsSomeList hs) × All (λ (h : HandlerId). h.micro.0 < 8) hs
+IsServed e hs = (e < 19 → IsSomeList hs) × Each (λ (h : HandlerId). h.micro.0 < 8) hs
 
 abbrev pub AllServed : List EventDef → Type 0
-AllServed ds = All (λ (d : EventDef). IsSomeList d.handlers × All (λ (h : HandlerId). h.micro.0 < 8) d.handlers) ds
+AllServed ds = Each (λ (d : EventDef). IsSomeList d.handlers × Each (λ (h : HandlerId). h.micro.0 < 8) d.handlers) ds
 
 served-at : (ds : List EventDef) (n : ℕ) → AllServed ds → length ds ≡ n → (e : ℕ) → (e < n → IsSomeList (get_or (map (λ (d : EventDef). d.handlers) ds) e []))
-    × All (λ (h : HandlerId). h.micro.0 < 8) (get_or (map (λ (d : EventDef). d.handlers) ds) e [])
+    × Each (λ (h : HandlerId). h.micro.0 < 8) (get_or (map (λ (d : EventDef). d.handlers) ds) e [])
 served-at [] n all len e = (λ lt. absurd (omega (arith, len)), tt)
 served-at (d ∷ ds) n all len zero = (λ lt. all.0.0, all.0.1)
 served-at (d ∷ ds) n all len (suc e) = let rest = served-at ds (length ds) all.1 refl e in (λ lt. rest.0 (omega (arith, len)), rest.1)
@@ -190,7 +190,7 @@ group_served = (
   ),
 )
 
-change_served : (c : ℕ) → All (λ (t : TableDef). IsServed t.event.0 t.handlers) (get_or group_changes c no_change).table
+change_served : (c : ℕ) → Each (λ (t : TableDef). IsServed t.event.0 t.handlers) (get_or group_changes c no_change).table
 change_served zero = ((λ lt. tt, (omega arith, tt)), tt)
 change_served (suc zero) = ((λ lt. tt, (omega arith, tt)), tt)
 change_served (suc (suc c)) = tt
@@ -198,11 +198,11 @@ change_served (suc (suc c)) = tt
 pub all_served : (script : Script) → IsGroup script → IsBound script IsServed
 all_served script group = record {
   first = λ e. subst (λ (ds : List EventDef). IsServed e (get_or (map (λ (d : EventDef). d.handlers) ds) e [])) (sym group.events) (served-at group_events 19 group_served refl e);
-  changed = λ change. subst (λ (cs : List ChangeDef). All (λ (t : TableDef). IsServed t.event.0 t.handlers) (get_or cs change.0 no_change).table) (sym group.changes) (change_served change.0);
+  changed = λ change. subst (λ (cs : List ChangeDef). Each (λ (t : TableDef). IsServed t.event.0 t.handlers) (get_or cs change.0 no_change).table) (sym group.changes) (change_served change.0);
 }
 
 -- the one declaration, whatever the event
-decl_zero : (ds : List EventDef) → All (λ (d : EventDef). d.decl ≡ 0) ds → (e : ℕ) → (get_or ds e no_event).decl ≡ 0
+decl_zero : (ds : List EventDef) → Each (λ (d : EventDef). d.decl ≡ 0) ds → (e : ℕ) → (get_or ds e no_event).decl ≡ 0
 decl_zero [] all e = refl
 decl_zero (d ∷ ds) all zero = all.0
 decl_zero (d ∷ ds) all (suc e) = decl_zero ds all.1 e
@@ -228,13 +228,13 @@ declared (suc (suc (suc (suc (suc (suc zero)))))) lt = refl
 declared (suc (suc (suc (suc (suc (suc (suc zero))))))) lt = refl
 declared (suc (suc (suc (suc (suc (suc (suc (suc p)))))))) lt = absurd (omega arith)
 
-pub accepts : (hs : List HandlerId) (decl : Decl) → decl ≡ Decl.Set (0 ∷ 1 ∷ 2 ∷ 3 ∷ 4 ∷ 5 ∷ 6 ∷ 7 ∷ []) → IsSomeList hs → All (λ (h : HandlerId). h.micro.0 < 8) hs
+pub accepts : (hs : List HandlerId) (decl : Decl) → decl ≡ Decl.Set (0 ∷ 1 ∷ 2 ∷ 3 ∷ 4 ∷ 5 ∷ 6 ∷ 7 ∷ []) → IsSomeList hs → Each (λ (h : HandlerId). h.micro.0 < 8) hs
     → (entries : List Entry) (caller : Option HandlerId) (r : Refusal) → attempt_all decl entries caller hs ≡ Attempt.Refuses r → ⊥
 accepts [] decl is some small entries caller r refuses = absurd some
 accepts (h ∷ hs) decl is some small entries caller r refuses =
     let set : Decl = Decl.Set (0 ∷ 1 ∷ 2 ∷ 3 ∷ 4 ∷ 5 ∷ 6 ∷ 7 ∷ []) in
     let yes : attempt_all set entries caller (h ∷ hs) ≡ Attempt.Accepts h hs =
-    never_refused (0 ∷ 1 ∷ 2 ∷ 3 ∷ 4 ∷ 5 ∷ 6 ∷ 7 ∷ []) entries caller h hs (all_map (λ (g : HandlerId). g.micro.0 < 8) (λ (g : HandlerId). declares set g.micro.0 ≡ true) (λ g lt. declared g.micro.0 lt) (h ∷ hs) small) in
+    never_refused (0 ∷ 1 ∷ 2 ∷ 3 ∷ 4 ∷ 5 ∷ 6 ∷ 7 ∷ []) entries caller h hs (each_weaker (λ (g : HandlerId). g.micro.0 < 8) (λ (g : HandlerId). declares set g.micro.0 ≡ true) (λ g lt. declared g.micro.0 lt) (h ∷ hs) small) in
     let both : Attempt.Accepts h hs ≡ Attempt.Refuses r = sym yes ∙ (ap (λ (d : Decl). attempt_all d entries caller (h ∷ hs)) (sym is) ∙ refuses) in
     cc
 
@@ -284,7 +284,7 @@ begins_next script exts more past b x called arg frame history split effective i
     }
 
 -- every budget is 64, and no event has more than two handlers
-few_at : (ds : List EventDef) → All (λ (d : EventDef). length d.handlers ≤ 4) ds → (e : ℕ) → length (get_or (map (λ (d : EventDef). d.handlers) ds) e []) ≤ 4
+few_at : (ds : List EventDef) → Each (λ (d : EventDef). length d.handlers ≤ 4) ds → (e : ℕ) → length (get_or (map (λ (d : EventDef). d.handlers) ds) e []) ≤ 4
 few_at [] all e = omega arith
 few_at (d ∷ ds) all zero = all.0
 few_at (d ∷ ds) all (suc e) = few_at ds all.1 e
@@ -295,13 +295,13 @@ AreFew e hs = length hs ≤ 4
 all_few : (script : Script) → IsGroup script → IsBound script AreFew
 all_few script group = record {
   first = λ e. subst (λ (ds : List EventDef). length (get_or (map (λ (d : EventDef). d.handlers) ds) e []) ≤ 4) (sym group.events) (few_at group_events few e);
-  changed = λ change. subst (λ (cs : List ChangeDef). All (λ (t : TableDef). length t.handlers ≤ 4) (get_or cs change.0 no_change).table) (sym group.changes) (few_changed change.0);
+  changed = λ change. subst (λ (cs : List ChangeDef). Each (λ (t : TableDef). length t.handlers ≤ 4) (get_or cs change.0 no_change).table) (sym group.changes) (few_changed change.0);
 }
   where
-    few : All (λ (d : EventDef). length d.handlers ≤ 4) group_events
+    few : Each (λ (d : EventDef). length d.handlers ≤ 4) group_events
     few = (omega arith, (omega arith, (omega arith, (omega arith, (omega arith, (omega arith, (omega arith, (omega arith, (omega arith, (omega arith, (omega arith, (omega arith, (omega arith, (omega arith, (omega arith, (omega arith, (omega arith, (omega arith, (omega arith, tt)))))))))))))))))))
 
-    few_changed : (c : ℕ) → All (λ (t : TableDef). length t.handlers ≤ 4) (get_or group_changes c no_change).table
+    few_changed : (c : ℕ) → Each (λ (t : TableDef). length t.handlers ≤ 4) (get_or group_changes c no_change).table
     few_changed zero = (omega arith, tt)
     few_changed (suc zero) = (omega arith, tt)
     few_changed (suc (suc c)) = tt

@@ -33,9 +33,9 @@ use Rattle.samoa_serial.proofs.EntryLaws.{EachEntry, GivesAlways, IsGiven, seria
 use Rattle.samoa_serial.proofs.TicksLaws.{admitted-few, each_admitted}
 use Rattle.samoa_serial.proofs.RangeLaws.{admitted_in_range, in_zip_second}
 use Rattle.samoa_serial.proofs.RebindingLaws.{IsNoRebinding, admitted_rebindings}
-use Rattle.samoa_laws.specs.trace.Lists.{All, In}
+use Rattle.samoa_serial.specs.Lists.{Each, In}
 use Rattle.samoa_laws.specs.trace.Group.{IsFree, IsGroup, IsGroupHistory, IsRebinding, IsTo, IsWire, event}
-use Rattle.samoa_laws.proofs.trace.Lists.{all_in}
+use Rattle.samoa_serial.proofs.ListLaws.{each_in}
 use Rattle.samoa_laws.proofs.trace.Worlds.{group_micro, setup_from}
 use Rattle.samoa_laws.proofs.trace.Given.{IsNodeOf, IsOneOf, IsOut, link_given, fd_given, rbcast_given, cons_given, abcast_given, seqcast_given, repl_given, views_given}
 
@@ -51,7 +51,7 @@ free_is_event item (inr (inr (inl e))) = ap (λ (cause : Cause). rebinding_of ca
 free_is_event item (inr (inr (inr (inl e)))) = ap (λ (cause : Cause). rebinding_of cause item.args) e
 free_is_event item (inr (inr (inr (inr none)))) = absurd none
 
-no_rebinding : (items : List DoDef) → All (λ (item : DoDef). IsFree item.cause) items → Each (λ (item : DoDef). IsNoRebinding (ext_of item)) items
+no_rebinding : (items : List DoDef) → Each (λ (item : DoDef). IsFree item.cause) items → Each (λ (item : DoDef). IsNoRebinding (ext_of item)) items
 no_rebinding [] all = tt
 no_rebinding (item ∷ items) all = (free_is_event item all.0, no_rebinding items all.1)
 
@@ -98,7 +98,7 @@ admitted_by_group script group range known wired = record {
         → IsAsked script before x ⊎ (IsOwn script x ⊎ IsMessage script before x) → IsFree x.cause ⊎ (IsWire script before x ⊎ IsRebinding script before x)
     of before x b (inl s) = inr (inr (rebinding script before x s b))
     of before x b (inr (inl own)) =
-        inl (subst (λ (y : Ext). IsFree y.cause) (sym own.is) (all_in (λ (item : DoDef). IsFree item.cause) script.does own.item group.does own.there))
+        inl (subst (λ (y : Ext). IsFree y.cause) (sym own.is) (each_in (λ (item : DoDef). IsFree item.cause) script.does own.item group.does own.there))
     of before x b (inr (inr m)) = inr (inl (wire_of script wired before x m))
 
 -- each box of the group stack

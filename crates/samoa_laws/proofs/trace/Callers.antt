@@ -15,14 +15,14 @@ use Rattle.samoa_model.specs.declared.setup.Setup.{Setup}
 use Rattle.samoa_serial.specs.Kinds.{kind_step}
 use Rattle.samoa_serial.specs.Rows.{port_at}
 use Rattle.samoa_serial.specs.State.{State}
-use Rattle.samoa_laws.specs.trace.Lists.{All, In}
+use Rattle.samoa_serial.specs.Lists.{Each, In}
 use Rattle.samoa_laws.specs.trace.Trace.{HandlerStep, micro_of}
 use Rattle.samoa_laws.specs.trace.Causes.{Calls, Cause, Defers, FollowsIn, IsTrace}
 use Rattle.samoa_laws.specs.trace.Group.{IsFree, IsGroup, IsGroupHistory, IsRebinding, IsWire, event, event_for, group_changes}
 use Rattle.samoa_laws.specs.trace.Transport.{BeginsAt}
 use Rattle.samoa_laws.specs.trace.Callers.{WasCalled, callers}
 use Rattle.samoa_laws.proofs.trace.Accepted.{kind_port}
-use Rattle.samoa_laws.proofs.trace.Lists.{all_in, in_middle}
+use Rattle.samoa_serial.proofs.ListLaws.{each_in, in_middle}
 use Rattle.samoa_laws.proofs.trace.Points.{trace-is_trace}
 use Rattle.samoa_laws.proofs.trace.Received.{no_box}
 use Rattle.samoa_laws.proofs.trace.Shapes.{AbCasts, AbHandsOn, AbNothing, AbProposes, AbSays, Asks, AtPort, Casts, ConsAnnounces, ConsDecides, ConsNothing, ConsSays, ConsTells, Hands, HandsUp, IsDone, IsQuiet, LinkShape, Quiet, RbShape, Relays, Rests, Sends, Silent, Talks, abcast-step, cons-step, fd-step, link-step, rbcast-step, repl-step, seqcast-step, views-step}
@@ -93,13 +93,13 @@ kind_now nodes v (suc (suc (suc (suc (suc (suc (suc zero))))))) s m = asks_now (
 kind_now nodes v (suc (suc (suc (suc (suc (suc (suc (suc p)))))))) s m = asks_now (setup_from nodes v no_micro) _ _ (no_box nodes v s m)
 
 -- ---- a port is one of a microprotocol that calls its event
-calls_at : (p : ℕ) (ports : List EventId) (port : ℕ) → All (λ (e : EventId). In p (callers e.0)) ports
+calls_at : (p : ℕ) (ports : List EventId) (port : ℕ) → Each (λ (e : EventId). In p (callers e.0)) ports
     → ((slice_index_or ports port (event 0)).0 ≡ 0) ⊎ In p (callers (slice_index_or ports port (event 0)).0)
 calls_at p [] port all = inl refl
 calls_at p (e ∷ es) zero all = inr all.0
 calls_at p (e ∷ es) (suc port) all = calls_at p es port all.1
 
-ports_called : (p : ℕ) → All (λ (e : EventId). In p (callers e.0)) (group_micro p).ports
+ports_called : (p : ℕ) → Each (λ (e : EventId). In p (callers e.0)) (group_micro p).ports
 ports_called zero = (inl refl, (inl refl, (inl refl, (inl refl, (inl refl, tt)))))
 ports_called (suc zero) = (inl refl, (inl refl, tt))
 ports_called (suc (suc zero)) = (inr (inl refl), (inl refl, tt))
@@ -144,7 +144,7 @@ root_outer script exts history past x f = go (history.allowed f.before f.ext f.l
 
     rebinding : IsRebinding script f.before f.ext → Outer (root_of script f.ext.cause).0
     rebinding r =
-        let known : IsExtOf script f.ext = all_in (IsExtOf script) exts f.ext history.known (subst (λ (xs : List Ext). In f.ext xs) (sym f.admitted) (in_middle f.ext f.before f.later)) in
+        let known : IsExtOf script f.ext = each_in (IsExtOf script) exts f.ext history.known (subst (λ (xs : List Ext). In f.ext xs) (sym f.admitted) (in_middle f.ext f.before f.later)) in
         let in_range : r.change.0 < length script.changes = subst (IsCauseOf script) r.cause known.cause in
         let lt : r.change.0 < length group_changes = subst (λ (cs : List ChangeDef). r.change.0 < length cs) history.group.changes in_range in
         let is : root_of script f.ext.cause ≡ event 18 =
@@ -170,7 +170,7 @@ was_called script exts history past x t f arg begun first last = go f.follows.ca
     h = x.call.handler
 
     stands : (e : EventId) → In h ((setting f).handlers e) → event_for h ≡ e.0
-    stands e i = all_in (λ (g : HandlerId). event_for g ≡ e.0) _ h (bound_stands script exts history.group past x f e) i
+    stands e i = each_in (λ (g : HandlerId). event_for g ≡ e.0) _ h (bound_stands script exts history.group past x f e) i
 
     outer : ((root_of script f.ext.cause).0 ≡ 0) ⊎ (14 ≤ (root_of script f.ext.cause).0) → event_for h ≡ (root_of script f.ext.cause).0 → ⊥
     outer (inl none) at = omega (arith, at, none, first)

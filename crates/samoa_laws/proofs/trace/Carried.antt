@@ -10,7 +10,7 @@ use Rattle.samoa_model.specs.declared.script.Script.{Script}
 use Rattle.samoa_model.specs.declared.setup.Setup.{Setup}
 use Rattle.samoa_serial.specs.declared.call.Call.{Call}
 use Rattle.samoa_serial.specs.Rows.{V, dest_of, port_at, word, message_words}
-use Rattle.samoa_laws.specs.trace.Lists.{All}
+use Rattle.samoa_serial.specs.Lists.{Each}
 use Rattle.samoa_laws.specs.trace.Trace.{HandlerStep, micro_of}
 use Rattle.samoa_laws.specs.trace.Causes.{Cause, FollowsIn, Setting}
 use Rattle.samoa_laws.specs.trace.Group.{IsGroup, event, handler}
@@ -18,7 +18,7 @@ use Rattle.samoa_laws.specs.trace.Transport.{IsCalled, IsCast, owner}
 use Rattle.samoa_laws.proofs.trace.Claims.{HasArrived, Hears, IsAsked, IsGood, IsGoodCall, Passes, called-more, good_resume, group_claims, is_cast-more, may_begin, other_call, told-more}
 use Rattle.samoa_laws.proofs.trace.Guarantee.{MayGoOn, Owes}
 use Rattle.samoa_laws.proofs.trace.Shapes.{AbCasts, AbHandsOn, AbNothing, AbProposes, AbSays, Asks, AtPort, Casts, ConsAnnounces, ConsDecides, ConsNothing, ConsSays, ConsTells, Hands, HandsUp, IsDone, IsQuiet, LinkShape, Quiet, RbShape, Relays, Rests, Sends, Silent, Talks}
-use Rattle.samoa_laws.proofs.trace.Lists.{all_in}
+use Rattle.samoa_serial.proofs.ListLaws.{each_in}
 use Rattle.samoa_laws.proofs.trace.Steps.{setting}
 use Rattle.samoa_laws.proofs.trace.Worlds.{group_setup}
 
@@ -93,14 +93,14 @@ up_call script past v arg cast = record { send = λ i. absurd (omega arith); get
 
 -- the ports of these numbers call events that nothing is owed to
 abbrev AreOther : Setup → List ℕ → Type 0
-AreOther setup ports = All (λ (port : ℕ). ((port_at setup port).0 ≡ 6) ⊎ (9 ≤ (port_at setup port).0)) ports
+AreOther setup ports = Each (λ (port : ℕ). ((port_at setup port).0 ≡ 6) ⊎ (9 ≤ (port_at setup port).0)) ports
 
 pub asks_owes : (script : Script) (exts : List Ext) (past : List HandlerStep) (x : HandlerStep) (s : Stepping script exts past x) → micro_of x ≢ 2
     → (setup : Setup) (ports : List ℕ) → AreOther setup ports → (o : Outcome) → Asks setup ports o → OwesAll s o
 asks_owes script exts past x s ne setup ports other o (Quiet q) =
     owes_quiet script exts past x s (λ frame. good_resume script (x ∷ past) x.node x.call.handler frame ne) o q
 asks_owes script exts past x s ne setup ports other o (AtPort port i arg frame is) =
-    owes_call script exts past x s (port_at setup port) arg frame (other_call script (x ∷ past) x.node _ arg (all_in _ ports port other i))
+    owes_call script exts past x s (port_at setup port) arg frame (other_call script (x ∷ past) x.node _ arg (each_in _ ports port other i))
     (good_resume script (x ∷ past) x.node x.call.handler frame ne) o is
 
 pub talks_owes : (script : Script) (exts : List Ext) (past : List HandlerStep) (x : HandlerStep) (s : Stepping script exts past x) → micro_of x ≢ 2

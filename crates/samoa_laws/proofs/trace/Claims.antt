@@ -10,13 +10,13 @@ use Rattle.samoa_model.specs.declared.ids.HandlerId.{HandlerId}
 use Rattle.samoa_model.specs.declared.record.Ext.{Ext}
 use Rattle.samoa_model.specs.declared.script.Script.{Script}
 use Rattle.samoa_serial.specs.Rows.{word}
-use Rattle.samoa_laws.specs.trace.Lists.{In}
+use Rattle.samoa_serial.specs.Lists.{In}
 use Rattle.samoa_laws.specs.trace.Trace.{HandlerStep, micro_of}
 use Rattle.samoa_laws.specs.trace.Causes.{FollowsIn}
 use Rattle.samoa_laws.specs.trace.Group.{IsGroup, IsTo, event, handler}
 use Rattle.samoa_laws.specs.trace.Transport.{IsCalled, IsCast, WasCast, owner}
 use Rattle.samoa_laws.proofs.trace.Guarantee.{Claims, MayBegin, MayGoOn}
-use Rattle.samoa_laws.proofs.trace.Lists.{all_in}
+use Rattle.samoa_serial.proofs.ListLaws.{each_in}
 use Rattle.samoa_laws.proofs.trace.Steps.{setting}
 use Rattle.samoa_laws.proofs.trace.Worlds.{bound_stands, event_for}
 
@@ -183,7 +183,7 @@ good_begin script past v e arg call h stands = record {
 pub may_begin : (script : Script) (exts : List Ext) → IsGroup script → (past : List HandlerStep) (x : HandlerStep) (f : FollowsIn script exts past x)
     → (now : List HandlerStep) (e : EventId) (arg : List ℕ) → IsGoodCall script now x.node e.0 arg → MayBegin (group_claims script) (setting f).handlers now x.node e arg
 may_begin script exts group past x f now e arg call h i =
-    good_begin script now x.node e.0 arg call h (all_in (λ (g : HandlerId). event_for g ≡ e.0) ((setting f).handlers e) h (bound_stands script exts group past x f e) i)
+    good_begin script now x.node e.0 arg call h (each_in (λ (g : HandlerId). event_for g ≡ e.0) ((setting f).handlers e) h (bound_stands script exts group past x f e) i)
 
 -- a call of another event owes nothing
 pub other_call : (script : Script) (past : List HandlerStep) (v e : ℕ) (arg : List ℕ) → (e ≡ 6) ⊎ (9 ≤ e) → IsGoodCall script past v e arg

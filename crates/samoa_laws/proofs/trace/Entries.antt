@@ -11,9 +11,9 @@ use Rattle.samoa_model.specs.declared.script.Script.{Script}
 use Rattle.samoa_serial.specs.Whole.{Ran}
 use Rattle.samoa_serial.specs.SerialRun.{ran_of, serial}
 use Rattle.samoa_serial.proofs.SerialLaws.{comps-append, length-comps}
-use Rattle.samoa_laws.specs.trace.Lists.{All, In}
+use Rattle.samoa_serial.specs.Lists.{Each, In}
 use Rattle.samoa_laws.specs.trace.Trace.{HandlerStep, given, given_at, is_output, output_of, outputs, outputs_at, trace}
-use Rattle.samoa_laws.proofs.trace.Lists.{all_in, all_map, in_append, in_left, in_right}
+use Rattle.samoa_serial.proofs.ListLaws.{each_in, each_weaker, in_append, in_left, in_right}
 use Rattle.samoa_laws.proofs.trace.Outputs.{given-append}
 use Rattle.samoa_laws.proofs.trace.Points.{Adds, adds_at}
 
@@ -123,7 +123,7 @@ output_given script exts ran e served is there =
       step = g.step;
       there = subst (λ (past : List HandlerStep). In g.step past) (sym whole)
           (in_right g.step x.more (a.own ++ trace script c.before) (in_left g.step a.own (trace script c.before) g.there));
-      in_comp = (all_in _ a.own g.step a.own_steps g.there).0;
+      in_comp = (each_in _ a.own g.step a.own_steps g.there).0;
       effective = g.effective;
       output = g.output;
     }
@@ -215,7 +215,7 @@ outputs_at-append node (x ∷ xs) (r ∷ rans) ext ran len =
     ∙ sym (append_assoc first (outputs_at node xs rans) (if ext.node.0 == node then outputs ran.world.entries else []))
 
 -- the steps of one computation are all at its node
-given_at-own : (node v : ℕ) (own past : List HandlerStep) → All (λ (b : HandlerStep). b.node ≡ v) own
+given_at-own : (node v : ℕ) (own past : List HandlerStep) → Each (λ (b : HandlerStep). b.node ≡ v) own
     → given_at node (own ++ past) ≡ given_at node past ++ (if v == node then given own else [])
 given_at-own node v [] past all = sym (go (v == node))
   where
@@ -242,7 +242,7 @@ node_outputs script exts node = go [] exts refl
     go before (ext ∷ later) ih =
         let a : Adds script (before ++ ext ∷ []) before ext = adds_at script (before ++ ext ∷ []) before ext [] refl in
         let ran : Ran = ran_of script before ((serial script before).states ext.node.0) ext in
-        let nodes : All (λ (b : HandlerStep). b.node ≡ ext.node.0) a.own = all_map _ (λ (b : HandlerStep). b.node ≡ ext.node.0) (λ b own. own.1) a.own a.own_steps in
+        let nodes : Each (λ (b : HandlerStep). b.node ≡ ext.node.0) a.own = each_weaker _ (λ (b : HandlerStep). b.node ≡ ext.node.0) (λ b own. own.1) a.own a.own_steps in
         let now : outputs_at node (before ++ ext ∷ []) (serial script (before ++ ext ∷ [])).comps ≡ given_at node (trace script (before ++ ext ∷ [])) =
         ap (λ (rans : List Ran). outputs_at node (before ++ ext ∷ []) rans) (comps-append script before ext)
         ∙ (outputs_at-append node before (serial script before).comps ext ran (length-comps script before)

@@ -12,7 +12,7 @@ use Rattle.std.specs.Prelude.{get_or}
 use Rattle.samoa_serial.specs.Kinds.{kind_step, opening}
 use Rattle.samoa_serial.specs.SerialRun.{opening_states}
 use Rattle.samoa_serial.specs.State.{LinkState, OfLink, State}
-use Rattle.samoa_laws.specs.trace.Lists.{All}
+use Rattle.samoa_serial.specs.Lists.{Each}
 use Rattle.samoa_laws.specs.trace.Trace.{HandlerStep, micro_of, state_at}
 use Rattle.samoa_laws.specs.trace.Causes.{FollowsIn, IsTrace}
 use Rattle.samoa_laws.specs.trace.Group.{IsGroup}
@@ -21,7 +21,7 @@ use Rattle.samoa_laws.proofs.trace.Worlds.{group_micro, group_setup, step_is}
 
 -- two steps at one box, with none there between them: the second finds what the first left
 pub chained : (script : Script) (exts : List Ext) (between earlier : List HandlerStep) (b x : HandlerStep) → FollowsIn script exts (between ++ b ∷ earlier) x → IsAt b x.node (micro_of x)
-    → All (λ (z : HandlerStep). IsAway z x.node (micro_of x)) between → x.old ≡ b.new
+    → Each (λ (z : HandlerStep). IsAway z x.node (micro_of x)) between → x.old ≡ b.new
 chained script exts between earlier b x f at away =
     f.follows.old
     ∙ (state_at-all_away (opening_states script) between (b ∷ earlier) x.node (micro_of x) away

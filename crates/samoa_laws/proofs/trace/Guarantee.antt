@@ -13,10 +13,10 @@ use Rattle.samoa_serial.specs.declared.call.Call.{Call}
 use Rattle.samoa_serial.specs.State.{State}
 use Rattle.samoa_serial.specs.World.{resume}
 use Rattle.samoa_serial.specs.SerialRun.{opening_states}
-use Rattle.samoa_laws.specs.trace.Lists.{In}
+use Rattle.samoa_serial.specs.Lists.{In}
 use Rattle.samoa_laws.specs.trace.Trace.{HandlerStep, micro_of, state_at}
 use Rattle.samoa_laws.specs.trace.Causes.{Cause, FollowsIn, GoesOn, IsRoot, IsTrace, Setting, frame_of}
-use Rattle.samoa_laws.proofs.trace.Lists.{in_middle}
+use Rattle.samoa_serial.proofs.ListLaws.{in_middle}
 use Rattle.samoa_laws.proofs.trace.Steps.{IsAt, IsAway, at_or_away, same_setting, setting, state_at-away, state_at-here}
 
 -- what is claimed, after these steps: that a moment of a handler at a node is good, that a message from a node is

@@ -8,10 +8,10 @@ use Rattle.samoa_serial.specs.declared.call.Call.{Call}
 use Rattle.samoa_serial.specs.declared.call.Due.{Due}
 use Rattle.samoa_serial.specs.World.{begin, calls_from}
 use Rattle.samoa_serial.specs.Calls.{at_frame, to_begin}
-use Rattle.samoa_laws.specs.trace.Lists.{In}
+use Rattle.samoa_serial.specs.Lists.{In}
 use Rattle.samoa_laws.specs.trace.Trace.{HandlerStep}
 use Rattle.samoa_laws.specs.trace.Causes.{Acts, Calls, ComesFrom, ComesSince, Defers, IsOther, IsRoot, Nested, Setting, frame_of}
-use Rattle.samoa_laws.proofs.trace.Lists.{in_left, in_right}
+use Rattle.samoa_serial.proofs.ListLaws.{in_left, in_right}
 
 -- from outside all calls: by the root event, as one of its later handlers, or deferred by one of these steps
 abbrev pub Outside : Setting → List HandlerStep → Call → Moment → Type 0

@@ -11,10 +11,10 @@ use Rattle.samoa_model.specs.declared.script.Script.{Script}
 use Rattle.samoa_serial.specs.World.{attempts_of, handler_of}
 use Rattle.samoa_serial.specs.SerialRun.{Served, opening_states, ran_of, serial, serve_from, serve_one}
 use Rattle.samoa_serial.proofs.SerialLaws.{serial-append}
-use Rattle.samoa_laws.specs.trace.Lists.{All}
+use Rattle.samoa_serial.specs.Lists.{Each}
 use Rattle.samoa_laws.specs.trace.Trace.{HandlerStep, given, outputs, state_at, trace, trace_from, traced}
 use Rattle.samoa_laws.specs.trace.Causes.{EndsWell, IsTrace, Setting, setting_of}
-use Rattle.samoa_laws.proofs.trace.Lists.{all_map}
+use Rattle.samoa_serial.proofs.ListLaws.{each_weaker}
 use Rattle.samoa_laws.proofs.trace.Stands.{Resolves}
 use Rattle.samoa_laws.proofs.trace.Walks.{event-walks}
 
@@ -47,7 +47,7 @@ trace-append script xs ext = trace_from-append script [] _ [] xs (ext ∷ [])
 -- what stands after these computations
 pub record Point (script : Script) (exts : List Ext) (before : List Ext) : Type 0 where
   pub ended : EndsWell (trace script before)
-  pub comps : All (λ (b : HandlerStep). b.comp < length before) (trace script before)
+  pub comps : Each (λ (b : HandlerStep). b.comp < length before) (trace script before)
   pub found : (u p : ℕ) → (serial script before).states u p ≡ state_at (opening_states script) (trace script before) u p
   pub fact : IsTrace script exts (trace script before)
 
@@ -55,7 +55,7 @@ pub record Point (script : Script) (exts : List Ext) (before : List Ext) : Type 
 pub record Adds (script : Script) (exts before : List Ext) (ext : Ext) : Type 0 where
   pub own : List HandlerStep
   pub over : trace script (before ++ ext ∷ []) ≡ own ++ trace script before
-  pub own_steps : All (λ (b : HandlerStep). (b.comp ≡ length before) × (b.node ≡ ext.node.0)) own
+  pub own_steps : Each (λ (b : HandlerStep). (b.comp ≡ length before) × (b.node ≡ ext.node.0)) own
   pub outputs_are : outputs (ran_of script before ((serial script before).states ext.node.0) ext).world.entries ≡ given own
   pub point : Point script exts (before ++ ext ∷ [])
 
@@ -75,8 +75,8 @@ adds script exts before ext later admitted p =
       outputs_are = over.outputs_are;
       point = record {
         ended = subst EndsWell (sym is) over.ended;
-        comps = subst (All (λ (b : HandlerStep). b.comp < length (before ++ ext ∷ []))) (sym is)
-            (all_map _ _ (λ b le. omega (arith, length-append before (ext ∷ []))) _ over.comps);
+        comps = subst (Each (λ (b : HandlerStep). b.comp < length (before ++ ext ∷ []))) (sym is)
+            (each_weaker _ _ (λ b le. omega (arith, length-append before (ext ∷ []))) _ over.comps);
         found = λ u p. ap (λ (served : Served). served.states u p) (serial-append script before ext)
             ∙ (over.found u p ∙ ap (λ (past : List HandlerStep). state_at (opening_states script) past u p) (sym is));
         fact = subst (IsTrace script exts) (sym is) over.fact;

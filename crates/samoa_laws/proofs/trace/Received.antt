@@ -12,7 +12,7 @@ use Rattle.samoa_model.specs.declared.script.Script.{Script}
 use Rattle.samoa_model.specs.declared.setup.Kind.TheVariants.{Prog}
 use Rattle.samoa_serial.specs.Kinds.{kind_step}
 use Rattle.samoa_serial.specs.State.{Registers, State}
-use Rattle.samoa_laws.specs.trace.Lists.{In}
+use Rattle.samoa_serial.specs.Lists.{In}
 use Rattle.samoa_laws.specs.trace.Trace.{HandlerStep, micro_of, trace}
 use Rattle.samoa_laws.specs.trace.Causes.{FollowsIn, IsRoot, IsTrace}
 use Rattle.samoa_laws.specs.trace.Group.{IsFree, IsGroup, IsGroupHistory, IsRebinding, IsSent, IsTo, IsWire, event, group_changes, handler}
@@ -21,7 +21,7 @@ use Rattle.samoa_laws.proofs.trace.Carried.{OwesAll, Stepping, ab_owes, asks_owe
 use Rattle.samoa_laws.proofs.trace.Claims.{HasArrived, Hears, IsFor, IsGood, IsGoodCall, IsMessage, for_node, good-more, good_begin, group_claims, message-more, other_call}
 use Rattle.samoa_laws.proofs.trace.Entries.{SentBy, sent_by}
 use Rattle.samoa_laws.proofs.trace.Guarantee.{AllSent, Claims, Keeps, Sound, guaranteed}
-use Rattle.samoa_laws.proofs.trace.Lists.{all_in, in_middle, in_right}
+use Rattle.samoa_serial.proofs.ListLaws.{each_in, in_middle, in_right}
 use Rattle.samoa_laws.proofs.trace.Points.{trace-is_trace}
 use Rattle.samoa_laws.proofs.trace.Shapes.{AbSays, Asks, ConsSays, LinkShape, Quiet, RbShape, Talks, abcast-step, cons-step, fd-step, link-step, rbcast-step, repl-step, seqcast-step, views-step}
 use Rattle.samoa_laws.proofs.trace.Steps.{setting}
@@ -68,7 +68,7 @@ root_begin : (script : Script) (exts : List Ext) → IsGroup script → (past : 
 root_begin script exts group past x f e is call root =
     let h : HandlerId = x.call.handler in
     let stands : event_for h ≡ (root_of script f.ext.cause).0 =
-    all_in (λ (g : HandlerId). event_for g ≡ (root_of script f.ext.cause).0) _ h (bound_stands script exts group past x f (root_of script f.ext.cause)) root.bound in
+    each_in (λ (g : HandlerId). event_for g ≡ (root_of script f.ext.cause).0) _ h (bound_stands script exts group past x f (root_of script f.ext.cause)) root.bound in
     subst (λ (m : Moment). IsGood script past x.node h m) (sym root.moment)
     (good_begin script past x.node e f.ext.args call h (stands ∙ ap (λ (r : EventId). r.0) is))
 
@@ -101,7 +101,7 @@ root_good script exts history past x f sent root = go (history.allowed f.before 
 
     rebinding : IsRebinding script f.before f.ext → IsGood script past x.node x.call.handler x.moment
     rebinding r =
-        let known : IsExtOf script f.ext = all_in (IsExtOf script) exts f.ext history.known (subst (λ (xs : List Ext). In f.ext xs) (sym f.admitted) (in_middle f.ext f.before f.later)) in
+        let known : IsExtOf script f.ext = each_in (IsExtOf script) exts f.ext history.known (subst (λ (xs : List Ext). In f.ext xs) (sym f.admitted) (in_middle f.ext f.before f.later)) in
         let in_range : r.change.0 < length script.changes = subst (IsCauseOf script) r.cause known.cause in
         let lt : r.change.0 < length group_changes = subst (λ (cs : List ChangeDef). r.change.0 < length cs) history.group.changes in_range in
         root_begin script exts history.group past x f 18

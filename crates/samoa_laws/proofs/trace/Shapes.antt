@@ -26,7 +26,7 @@ use Rattle.samoa_serial.specs.RbcastTable as rb
 use Rattle.samoa_serial.specs.ReplTable as re
 use Rattle.samoa_serial.specs.SeqcastTable as sq
 use Rattle.samoa_serial.specs.ViewsTable as vi
-use Rattle.samoa_laws.specs.trace.Lists.{In}
+use Rattle.samoa_serial.specs.Lists.{In}
 
 -- asks for no call and sends nothing
 abbrev pub IsQuiet : Outcome → Type 0

@@ -16,10 +16,10 @@ use Rattle.samoa_serial.specs.declared.call.Due.{Due}
 use Rattle.samoa_serial.specs.declared.call.Waiting.{Waiting}
 use Rattle.samoa_serial.specs.World.{Attempts, Books, accepted, begin, calls_from, next_call, refused, resume}
 use Rattle.samoa_serial.specs.Calls.{Computation, at_frame, at_moment, attempted, first_answer, given, replied, to_begin, woken}
-use Rattle.samoa_laws.specs.trace.Lists.{All, In}
+use Rattle.samoa_serial.specs.Lists.{Each, In}
 use Rattle.samoa_laws.specs.trace.Trace.{HandlerStep}
 use Rattle.samoa_laws.specs.trace.Causes.{Acts, BeginsFirst, Cause, Comes, GoesOn, IsOther, Setting}
-use Rattle.samoa_laws.proofs.trace.Lists.{in_middle}
+use Rattle.samoa_serial.proofs.ListLaws.{in_middle}
 use Rattle.samoa_laws.proofs.trace.Numbers.{AllUpTo, calls_made-accepted, up_to-calls, up_to-more}
 use Rattle.samoa_laws.proofs.trace.Levels.{AllBegin, At, Base, Ground, Inside, Levels, Outside, Over, Top, Waits, Within, begin-append, begin-calls, begin-map, inside-from, lift, CallsOther}
 
@@ -56,7 +56,7 @@ deferred-more S past x w d = record { by = d.by; there = inr d.there; frame = d.
 
 pub record Standing (S : Setting) (past : List HandlerStep) (Next : Call → Moment → Type 0) (End : Type 0) (comp : Computation) : Type 0 where
   pub stands : Stands S past Next End comp.active
-  pub waiting : All (IsDeferred S past) comp.waiting
+  pub waiting : Each (IsDeferred S past) comp.waiting
   pub numbers : AllUpTo (calls_made comp.entries) comp.active
 
 -- an attempt of a call that comes so
@@ -73,7 +73,7 @@ pub record Tries (S : Setting) (past : List HandlerStep) (Next : Call → Moment
 pub attempted-stands : (S : Setting) → Resolves S.rules.attempt S.handlers → (past : List HandlerStep) (Next : Call → Moment → Type 0) (End : Type 0)
     (books : Books) (caller : Option Call) (event : EventId) (arg : List ℕ) (answer : Option Ending) (rest : List Active)
     (next : Books → Reply → Computation) (From : Call → Moment → Type 0)
-    → Tries S past Next books.entries event arg rest From → All (IsDeferred S past) books.waiting → AllUpTo (calls_made books.entries) rest
+    → Tries S past Next books.entries event arg rest From → Each (IsDeferred S past) books.waiting → AllUpTo (calls_made books.entries) rest
     → ((r : Refusal) → S.rules.attempt books.entries caller event ≡ Attempt.Refuses r → Standing S past Next End (next (refused books caller event r) (Reply.Refused r)))
     → Standing S past Next End (attempted books caller event arg answer rest next (S.rules.attempt books.entries caller event))
 attempted-stands S resolves past Next End books caller event arg answer rest next From tries waiting numbers refuse = go (S.rules.attempt books.entries caller event) refl
@@ -117,7 +117,7 @@ outside_comes S past c m (inr d) = Comes.AsDeferred d.0 d.1 d.2
 -- where any step may be next: the waiting calls are attempted
 woken-stands : (S : Setting) → Resolves S.rules.attempt S.handlers → (past : List HandlerStep) (Next : Call → Moment → Type 0) (End : Type 0)
     → ((c : Call) (m : Moment) → Next c m) → End → (waiting : List Waiting) (books : Books) (answer : Option Ending)
-    → All (IsDeferred S past) waiting → Standing S past Next End (woken S.rules.attempt waiting books answer)
+    → Each (IsDeferred S past) waiting → Standing S past Next End (woken S.rules.attempt waiting books answer)
 woken-stands S resolves past Next End any end [] books answer all = record { stands = end; waiting = tt; numbers = tt }
 woken-stands S resolves past Next End any end (first ∷ later) books answer all =
     let d : IsDeferred S past first = all.0 in
@@ -214,7 +214,7 @@ given-number c (Due.Frame frame) r = refl
 
 pub replied-stands : (S : Setting) → Resolves S.rules.attempt S.handlers → (past : List HandlerStep) (Next : Call → Moment → Type 0) (End : Type 0)
     → ((c : Call) (m : Moment) → Next c m) → End → (books : Books) (answer : Option Ending) (rest : List Active) (r : Reply)
-    (top : Top) → Levels S top past rest → All (IsDeferred S past) books.waiting → AllUpTo (calls_made books.entries) rest
+    (top : Top) → Levels S top past rest → Each (IsDeferred S past) books.waiting → AllUpTo (calls_made books.entries) rest
     → Standing S past Next End (replied S.rules.attempt books answer rest r)
 replied-stands S resolves past Next End any end books answer [] r top levels waiting numbers =
     woken-stands S resolves past Next End any end books.waiting books (first_answer answer r) waiting

@@ -4,7 +4,7 @@ use Rattle.std.proofs.lemmas.Bool.Decides.{eqb_tells}
 use Rattle.samoa_model.specs.declared.record.Ext.{Ext}
 use Rattle.samoa_model.specs.declared.script.Script.{Script}
 use Rattle.samoa_serial.specs.World.{States}
-use Rattle.samoa_laws.specs.trace.Lists.{All, In}
+use Rattle.samoa_serial.specs.Lists.{Each, In}
 use Rattle.samoa_laws.specs.trace.Trace.{HandlerStep, is_done, micro_of, state_at}
 use Rattle.samoa_laws.specs.trace.Causes.{FollowsIn, IsNext, IsNextIn, IsTrace, Setting, setting_of}
 
@@ -40,7 +40,7 @@ state_at-away opening x past v p away = go (eqb_tells v x.node) (eqb_tells p (mi
     go (inr here) there = rw here.0 refl
 
 -- steps elsewhere leave the state of a box
-pub state_at-all_away : (opening : ℕ → States) (more past : List HandlerStep) (v p : ℕ) → All (λ (z : HandlerStep). IsAway z v p) more
+pub state_at-all_away : (opening : ℕ → States) (more past : List HandlerStep) (v p : ℕ) → Each (λ (z : HandlerStep). IsAway z v p) more
     → state_at opening (more ++ past) v p ≡ state_at opening past v p
 state_at-all_away opening [] past v p away = refl
 state_at-all_away opening (z ∷ more) past v p away =

@@ -10,7 +10,7 @@ use Rattle.samoa_model.specs.declared.record.Ext.{Ext}
 use Rattle.samoa_model.specs.declared.script.Decl.{Decl}
 use Rattle.samoa_model.specs.declared.script.Script.{Script}
 use Rattle.samoa_model.specs.declared.script.TableDef.{TableDef}
-use Rattle.samoa_laws.specs.trace.Lists.{All}
+use Rattle.samoa_serial.specs.Lists.{Each}
 
 -- each event's list in a table is such
 abbrev pub HoldsIn : (ℕ → List HandlerId → Type 0) → Table → Type 0
@@ -23,7 +23,7 @@ set-holds P (xs ∷ table) zero hs new all (suc event) = all (suc event)
 set-holds P (xs ∷ table) (suc i) hs new all zero = all zero
 set-holds P (xs ∷ table) (suc i) hs new all (suc event) = set-holds (λ (e : ℕ). P (suc e)) table i hs new (λ e. all (suc e)) event
 
-rebound-holds : (P : ℕ → List HandlerId → Type 0) (ts : List TableDef) (table : Table) → All (λ (t : TableDef). P t.event.0 t.handlers) ts → HoldsIn P table
+rebound-holds : (P : ℕ → List HandlerId → Type 0) (ts : List TableDef) (table : Table) → Each (λ (t : TableDef). P t.event.0 t.handlers) ts → HoldsIn P table
     → HoldsIn P (rebound ts table)
 rebound-holds P [] table new all = all
 rebound-holds P (t ∷ ts) table new all = rebound-holds P ts (set table t.event.0 t.handlers) new.1 (set-holds P table t.event.0 t.handlers new.0 all)
@@ -31,7 +31,7 @@ rebound-holds P (t ∷ ts) table new all = rebound-holds P ts (set table t.event
 -- what holds of the first lists and of those of each change
 pub record IsBound (script : Script) (P : ℕ → List HandlerId → Type 0) : Type 0 where
   pub first : HoldsIn P (first_table script)
-  pub changed : (change : ChangeId) → All (λ (t : TableDef). P t.event.0 t.handlers) (change_at script change.0).table
+  pub changed : (change : ChangeId) → Each (λ (t : TableDef). P t.event.0 t.handlers) (change_at script change.0).table
 
 -- holds of all lists of all tables
 pub table-holds : (script : Script) (P : ℕ → List HandlerId → Type 0) → IsBound script P → (exts : List Ext) (node : ℕ) → HoldsIn P (table_of script exts node)
@@ -51,10 +51,10 @@ table-holds script P bound exts node = go exts (first_table script) bound.first
 
 -- a set that declares all of these refuses none
 first_refusal-none : (micros : List ℕ) (entries : List Entry) (caller : Option HandlerId) (before hs : List HandlerId)
-    → All (λ (h : HandlerId). declares (Decl.Set micros) h.micro.0 ≡ true) hs → first_refusal (Decl.Set micros) entries caller before hs ≡ None
+    → Each (λ (h : HandlerId). declares (Decl.Set micros) h.micro.0 ≡ true) hs → first_refusal (Decl.Set micros) entries caller before hs ≡ None
 first_refusal-none micros entries caller before [] all = refl
 first_refusal-none micros entries caller before (h ∷ hs) all = rw all.0 (first_refusal-none micros entries caller (before ++ h ∷ []) hs all.1)
 
 pub never_refused : (micros : List ℕ) (entries : List Entry) (caller : Option HandlerId) (h : HandlerId) (hs : List HandlerId)
-    → All (λ (g : HandlerId). declares (Decl.Set micros) g.micro.0 ≡ true) (h ∷ hs) → attempt_all (Decl.Set micros) entries caller (h ∷ hs) ≡ Attempt.Accepts h hs
+    → Each (λ (g : HandlerId). declares (Decl.Set micros) g.micro.0 ≡ true) (h ∷ hs) → attempt_all (Decl.Set micros) entries caller (h ∷ hs) ≡ Attempt.Accepts h hs
 never_refused micros entries caller h hs all = rw (first_refusal-none micros entries caller [] (h ∷ hs) all) refl

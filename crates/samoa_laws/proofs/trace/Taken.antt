@@ -9,10 +9,10 @@ use Rattle.samoa_model.specs.declared.record.Entry.{Entry}
 use Rattle.samoa_serial.specs.declared.call.Active.{Active}
 use Rattle.samoa_serial.specs.World.{Books, noted, resume, waits}
 use Rattle.samoa_serial.specs.Calls.{Computation, at_frame, at_moment, goes_on, outcome_effect, outcome_spends, outcome_taken, replied}
-use Rattle.samoa_laws.specs.trace.Lists.{All}
+use Rattle.samoa_serial.specs.Lists.{Each}
 use Rattle.samoa_laws.specs.trace.Trace.{HandlerStep, has_effect, is_done}
 use Rattle.samoa_laws.specs.trace.Causes.{Acts, Calls, Cause, Comes, EndsWell, GoesOn, IsNextIn, Leads, Setting, frame_of}
-use Rattle.samoa_laws.proofs.trace.Lists.{all_append}
+use Rattle.samoa_serial.proofs.ListLaws.{each_append}
 use Rattle.samoa_laws.proofs.trace.Numbers.{AllUpTo, calls_made-noted, up_to-more}
 use Rattle.samoa_laws.proofs.trace.Levels.{At, Over, Within, inside-from}
 use Rattle.samoa_laws.proofs.trace.Stands.{IsDeferred, Resolves, Runs, Standing, attempted-stands, replied-stands}
@@ -22,7 +22,7 @@ pub record Makes (S : Setting) (past : List HandlerStep) (x : HandlerStep) (book
   pub comp : x.comp ≡ S.comp
   pub node : x.node ≡ S.node
   pub within : Within S x (x ∷ past) rest
-  pub waiting : All (IsDeferred S (x ∷ past)) books.waiting
+  pub waiting : Each (IsDeferred S (x ∷ past)) books.waiting
   pub number : x.call.number ≤ calls_made books.entries
   pub numbers : AllUpTo (calls_made books.entries) rest
 
@@ -52,7 +52,7 @@ on-runs S past x books rest makes acts frame r is leads =
 -- an entry was noted, and the call goes on
 on-stands : (S : Setting) (past : List HandlerStep) (x : HandlerStep) (books : Books) (rest : List Active) → Makes S past x books rest → Acts S x
     → (new : Books) (answer : Option Ending) (frame : List ℕ) → frame_of x.outcome ≡ Some frame → Leads S x.call x.outcome x.call (resume x.call frame (Reply.Words []))
-    → All (IsDeferred S (x ∷ past)) new.waiting → calls_made books.entries ≤ calls_made new.entries
+    → Each (IsDeferred S (x ∷ past)) new.waiting → calls_made books.entries ≤ calls_made new.entries
     → StandsAfter S past x (goes_on new answer rest x.call frame)
 on-stands S past x books rest makes acts new answer frame is leads waiting le =
     let number : x.call.number ≤ calls_made books.entries = makes.number in
@@ -105,7 +105,7 @@ effect-stands S resolves past x books answer rest makes acts (Outcome.Call event
 effect-stands S resolves past x books answer rest makes acts (Outcome.Later event arg frame) e =
     on-stands S past x books rest makes acts (waits books x.call event arg) answer frame (ap frame_of e)
     (subst (λ (o : Outcome). Leads S x.call o x.call (resume x.call frame (Reply.Words []))) (sym e) (record { call = refl; moment = refl }))
-    (all_append _ books.waiting _ makes.waiting (record { by = x; there = inl refl; frame = frame; acts = acts; outcome = e }, tt))
+    (each_append _ books.waiting _ makes.waiting (record { by = x; there = inl refl; frame = frame; acts = acts; outcome = e }, tt))
     (calls_made-noted books.entries _)
 effect-stands S resolves past x books answer rest makes acts (Outcome.Send to event arg frame) e =
     on-stands S past x books rest makes acts (noted books (Entry.Sent x.call.number to event arg)) answer frame (ap frame_of e)

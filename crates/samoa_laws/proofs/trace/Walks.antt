@@ -15,10 +15,10 @@ use Rattle.samoa_serial.specs.Alone.{Machine, after, next_of, next_at, next_step
 use Rattle.samoa_serial.proofs.End.{turn-idle}
 use Rattle.samoa_serial.proofs.Point.{turn_is}
 use Rattle.samoa_serial.proofs.Refine.{ended, after-turns_of_event}
-use Rattle.samoa_laws.specs.trace.Lists.{All}
+use Rattle.samoa_serial.specs.Lists.{Each}
 use Rattle.samoa_laws.specs.trace.Trace.{HandlerStep, Walk, given, has_effect, micro_of, output_of, outputs, state_at, step_of, units_after, walk, walked}
 use Rattle.samoa_laws.specs.trace.Causes.{Cause, Comes, EndsWell, Follows, IsFirst, IsNextIn, IsRoot, Setting}
-use Rattle.samoa_laws.proofs.trace.Lists.{all_in, all_map}
+use Rattle.samoa_serial.proofs.ListLaws.{each_in, each_weaker}
 use Rattle.samoa_laws.proofs.trace.Levels.{Base, Ground, Outside, begin-append, begin-map, push}
 use Rattle.samoa_laws.proofs.trace.Numbers.{AllUpTo}
 use Rattle.samoa_laws.proofs.trace.Outputs.{start-outputs, taken-outputs}
@@ -40,16 +40,16 @@ pub record Fits (S : Setting) (first : ℕ → States) (Fact : List HandlerStep 
   pub states : w.states ≡ m.states
   pub standing : Standing S w.past (IsNextIn S w.past) (EndsWell w.past) m.comp
   pub found : (u p : ℕ) → states_with served S.node w.states u p ≡ state_at first w.past u p
-  pub comps : All (λ (b : HandlerStep). b.comp ≤ S.comp) w.past
+  pub comps : Each (λ (b : HandlerStep). b.comp ≤ S.comp) w.past
   pub own : List HandlerStep
   pub over : w.past ≡ own ++ earlier
-  pub own_steps : All (λ (b : HandlerStep). (b.comp ≡ S.comp) × (b.node ≡ S.node)) own
+  pub own_steps : Each (λ (b : HandlerStep). (b.comp ≡ S.comp) × (b.node ≡ S.node)) own
   pub outputs_are : outputs m.entries ≡ given own
   pub fact : Fact w.past
 
 -- a fact of the steps that each step of this computation keeps
 abbrev pub IsKept : Setting → (ℕ → States) → (List HandlerStep → Type 0) → List HandlerStep → Type 0
-IsKept S first Fact earlier = (past : List HandlerStep) (x : HandlerStep) (own : List HandlerStep) → past ≡ own ++ earlier → All (λ (b : HandlerStep). (b.comp ≡ S.comp) × (b.node ≡ S.node)) own
+IsKept S first Fact earlier = (past : List HandlerStep) (x : HandlerStep) (own : List HandlerStep) → past ≡ own ++ earlier → Each (λ (b : HandlerStep). (b.comp ≡ S.comp) × (b.node ≡ S.node)) own
     → Follows S first past x → Fact past → Fact (x ∷ past)
 
 -- the turn that the innermost call makes
@@ -85,7 +85,7 @@ fits-turn S resolves first Fact earlier more served m w fits a rest is run =
       comp = refl;
       node = refl;
       within = push S x run.top w.past rest run.levels run.inside refl refl;
-      waiting = all_map _ _ (deferred-more S w.past x) m.waiting fits.standing.waiting;
+      waiting = each_weaker _ _ (deferred-more S w.past x) m.waiting fits.standing.waiting;
       number = numbers.0;
       numbers = numbers.1;
     } in
@@ -147,7 +147,7 @@ fits-after S resolves first Fact earlier more served w m none fits (suc n) =
 -- what stands before a computation
 pub record Before (S : Setting) (first : ℕ → States) (Fact : List HandlerStep → Type 0) (served : ℕ → States) (past : List HandlerStep) : Type 0 where
   pub ended : EndsWell past
-  pub comps : All (λ (b : HandlerStep). b.comp < S.comp) past
+  pub comps : Each (λ (b : HandlerStep). b.comp < S.comp) past
   pub found : (u p : ℕ) → served u p ≡ state_at first past u p
   pub fact : Fact past
 
@@ -167,15 +167,15 @@ fits-opening S resolves first Fact served past budget before = record {
       (record {
         comes = λ d i lt. record { bound = i; moment = refl };
         cause = λ d m root. Cause.Root root;
-        next = λ d m begins. first_next S past d m (record { ended = before.ended; earlier = λ b i. all_in _ past b before.comps i; begins = begins });
-        when = λ d m root. Comes.AsFirst root (λ b i. all_in _ past b before.comps i);
+        next = λ d m begins. first_next S past d m (record { ended = before.ended; earlier = λ b i. each_in _ past b before.comps i; begins = begins });
+        when = λ d m root. Comes.AsFirst root (λ b i. each_in _ past b before.comps i);
         top = Ground;
         levels = λ begun all. Base (begin-append (Outside S past) begun [] (begin-map _ (Outside S past) (λ c m from. inl from) begun all) tt);
         inside = λ d m root. tt;
       })
       tt tt (λ r refuses. record { stands = before.ended; waiting = tt; numbers = tt });
   found = λ u p. served_is u p (u == S.node) refl;
-  comps = all_map _ _ (λ b lt. omega arith) past before.comps;
+  comps = each_weaker _ _ (λ b lt. omega arith) past before.comps;
   own = [];
   over = refl;
   own_steps = tt;
@@ -190,11 +190,11 @@ fits-opening S resolves first Fact served past budget before = record {
 -- a computation has ended with these entries, states and steps
 pub record Over (S : Setting) (first : ℕ → States) (Fact : List HandlerStep → Type 0) (earlier : List HandlerStep) (served : ℕ → States) (w : World) (past : List HandlerStep) : Type 0 where
   pub ended : EndsWell past
-  pub comps : All (λ (b : HandlerStep). b.comp ≤ S.comp) past
+  pub comps : Each (λ (b : HandlerStep). b.comp ≤ S.comp) past
   pub found : (u p : ℕ) → states_with served S.node w.states u p ≡ state_at first past u p
   pub own : List HandlerStep
   pub over : past ≡ own ++ earlier
-  pub own_steps : All (λ (b : HandlerStep). (b.comp ≡ S.comp) × (b.node ≡ S.node)) own
+  pub own_steps : Each (λ (b : HandlerStep). (b.comp ≡ S.comp) × (b.node ≡ S.node)) own
   pub outputs_are : outputs w.entries ≡ given own
   pub fact : Fact past
 

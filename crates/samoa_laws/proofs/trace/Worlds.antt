@@ -14,7 +14,7 @@ use Rattle.samoa_model.specs.declared.script.TableDef.{TableDef}
 use Rattle.samoa_model.specs.declared.setup.Setup.{Setup}
 use Rattle.samoa_serial.specs.Kinds.{kind_step}
 use Rattle.samoa_serial.specs.State.{State}
-use Rattle.samoa_laws.specs.trace.Lists.{All}
+use Rattle.samoa_serial.specs.Lists.{Each}
 use Rattle.samoa_laws.specs.trace.Trace.{HandlerStep, micro_of}
 use Rattle.samoa_laws.specs.trace.Causes.{FollowsIn}
 use Rattle.samoa_laws.specs.trace.Group.{IsGroup, group_changes, group_events, group_micros}
@@ -55,7 +55,7 @@ outcome_is script exts group past x f = sym (ap (λ (r : State × Outcome). r.1)
 
 -- all handlers of a list stand at this event
 abbrev pub StandAt : ℕ → List HandlerId → Type 0
-StandAt e hs = All (λ (h : HandlerId). event_for h ≡ e) hs
+StandAt e hs = Each (λ (h : HandlerId). event_for h ≡ e) hs
 
 abbrev AllStand : ℕ → List EventDef → Type 0
 AllStand k [] = ⊤
@@ -99,7 +99,7 @@ group_stand = (
   ),
 )
 
-change_stand : (c : ℕ) → All (λ (t : TableDef). StandAt t.event.0 t.handlers) (get_or group_changes c no_change).table
+change_stand : (c : ℕ) → Each (λ (t : TableDef). StandAt t.event.0 t.handlers) (get_or group_changes c no_change).table
 change_stand zero = ((refl, tt), tt)
 change_stand (suc zero) = ((refl, tt), tt)
 change_stand (suc (suc c)) = tt
@@ -107,7 +107,7 @@ change_stand (suc (suc c)) = tt
 group-bound : (script : Script) → IsGroup script → IsBound script StandAt
 group-bound script group = record {
   first = λ e. subst (λ (ds : List EventDef). StandAt e (get_or (map (λ (d : EventDef). d.handlers) ds) e [])) (sym group.events) (stand-at 0 group_events group_stand e e (omega arith));
-  changed = λ change. subst (λ (cs : List ChangeDef). All (λ (t : TableDef). StandAt t.event.0 t.handlers) (get_or cs change.0 no_change).table) (sym group.changes) (change_stand change.0);
+  changed = λ change. subst (λ (cs : List ChangeDef). Each (λ (t : TableDef). StandAt t.event.0 t.handlers) (get_or cs change.0 no_change).table) (sym group.changes) (change_stand change.0);
 }
 
 -- whatever handler an event is bound to in a computation, it stands at that event

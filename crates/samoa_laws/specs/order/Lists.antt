@@ -2,7 +2,7 @@
 use Rattle.std.specs.Prelude.{Bool, List, [], ◌∷◌, ◌++◌, ◌≡◌, ◌⊎◌, ◌&&◌, ◌==◌, if◌then◌else◌}
 use Rattle.std.specs.List.{list_any}
 use Rattle.samoa_serial.specs.Rows.{message_key, same_key}
-pub use Rattle.samoa_laws.specs.trace.Lists.{In}
+pub use Rattle.samoa_serial.specs.Lists.{In}
 use Rattle.samoa_serial.specs.declared.message.Message.{Message}
 
 -- one list is the beginning of another

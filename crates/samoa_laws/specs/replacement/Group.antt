@@ -2,7 +2,8 @@
 use Rattle.std.specs.Prelude.{ℕ, ◌^◌, ◌<◌, ◌≤◌, ◌==◌, ◌≡◌, List, length, map, filter}
 use Rattle.samoa_model.specs.declared.setup.Setup.{Setup}
 use Rattle.samoa_serial.specs.declared.message.Message.{Message}
-use Rattle.samoa_laws.specs.replacement.Lists.{Comparable, firsts, unknown, In}
+use Rattle.samoa_laws.specs.replacement.Lists.{Comparable, firsts, unknown}
+use Rattle.samoa_serial.specs.Lists.{In}
 use Rattle.samoa_laws.specs.replacement.History.{Step, left_by, IsHistory, begun, marks, below, same_message}
 
 -- a message with which `deliver` began, and the protocol that called it up

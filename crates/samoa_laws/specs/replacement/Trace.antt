@@ -7,7 +7,7 @@ use Rattle.samoa_model.specs.declared.handler.Outcome.TheVariants.{Done, Call, L
 use Rattle.samoa_model.specs.declared.handler.Reply.{Reply}
 use Rattle.samoa_model.specs.declared.ids.ChangeId.{ChangeId}
 use Rattle.samoa_model.specs.declared.setup.Setup.{Setup}
-use Rattle.samoa_laws.specs.replacement.Lists.{In}
+use Rattle.samoa_serial.specs.Lists.{In}
 use Rattle.samoa_serial.specs.ReplTable.{repl_step}
 use Rattle.samoa_laws.specs.replacement.History.{Step, left_by, given, asked}
 use Rattle.samoa_laws.specs.replacement.Casts.{handler_of, switches}

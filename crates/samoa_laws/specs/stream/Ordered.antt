@@ -5,7 +5,7 @@ use Rattle.samoa_model.specs.declared.record.Ext.{Ext}
 use Rattle.samoa_model.specs.declared.script.Script.{Script}
 use Rattle.samoa_serial.specs.Rows.{message_at}
 use Rattle.samoa_serial.specs.declared.message.Message.{Message}
-use Rattle.samoa_laws.specs.trace.Lists.{In}
+use Rattle.samoa_serial.specs.Lists.{In}
 use Rattle.samoa_laws.specs.trace.Trace.{HandlerStep, micro_of, trace}
 use Rattle.samoa_laws.specs.trace.Group.{Asking, handler}
 use Rattle.samoa_laws.specs.replacement.Lists as list
@@ -50,7 +50,7 @@ pub record WasSubmitted (past : List HandlerStep) (c : Up) : Type 0 where
 
 -- all that comes up was given
 abbrev pub AreSubmitted : Script → List Ext → Type 0
-AreSubmitted script exts = (v : ℕ) (c : Up) → list.In c (ups_at v (trace script exts)) → WasSubmitted (trace script exts) c
+AreSubmitted script exts = (v : ℕ) (c : Up) → In c (ups_at v (trace script exts)) → WasSubmitted (trace script exts) c
 
 -- the broadcast that a change of this number puts in place: 0 the sequencer protocol, 1 abcast
 abbrev pub broadcast_of : ℕ → ℕ

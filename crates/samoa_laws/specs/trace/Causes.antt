@@ -14,7 +14,7 @@ use Rattle.samoa_model.specs.Scripts.{decl_of, resolve, root_of, table_of}
 use Rattle.samoa_serial.specs.declared.call.Call.{Call}
 use Rattle.samoa_serial.specs.World.{Rules, States, begin, resume}
 use Rattle.samoa_serial.specs.SerialRun.{opening_states, rules_of}
-use Rattle.samoa_laws.specs.trace.Lists.{All, In}
+use Rattle.samoa_serial.specs.Lists.{Each, In}
 use Rattle.samoa_laws.specs.trace.Trace.{HandlerStep, is_done, micro_of, state_at, trace}
 
 -- what is fixed of a computation: how many stand before it, its node, its rules, the handlers of each event, and its
@@ -205,7 +205,7 @@ pub record FollowsIn (script : Script) (exts : List Ext) (past : List HandlerSte
   pub admitted : exts ≡ before ++ ext ∷ later
   pub own : List HandlerStep
   pub over : past ≡ own ++ trace script before
-  pub own_steps : All (λ (b : HandlerStep). (b.comp ≡ length before) × (b.node ≡ ext.node.0)) own
+  pub own_steps : Each (λ (b : HandlerStep). (b.comp ≡ length before) × (b.node ≡ ext.node.0)) own
   pub follows : Follows (setting_of script before ext) (opening_states script) past x
 
 -- each step follows those before it

@@ -20,7 +20,7 @@ use Rattle.samoa_model.specs.declared.script.Script.{Script}
 use Rattle.samoa_serial.specs.Whole.{Ran}
 use Rattle.samoa_serial.specs.SerialRun.{serial}
 pub use Rattle.samoa_serial.specs.Rebindings.{Asking, asked_in, asked_at, rebinding_of, rebindings_at}
-use Rattle.samoa_laws.specs.trace.Lists.{All, In}
+use Rattle.samoa_serial.specs.Lists.{Each, In}
 
 -- a handler, by the number of its microprotocol and its own
 abbrev pub handler : ℕ → ℕ → HandlerId
@@ -109,7 +109,7 @@ pub record IsGroup (script : Script) : Type 0 where
   pub decls : script.decls ≡ group_decls
   pub events : script.events ≡ group_events
   pub changes : script.changes ≡ group_changes
-  pub does : All (λ (item : DoDef). IsFree item.cause) script.does
+  pub does : Each (λ (item : DoDef). IsFree item.cause) script.does
 
 -- a message to this node or to all
 abbrev pub IsTo : ℕ → Dest → Type 0
@@ -141,6 +141,6 @@ pub record IsWire (script : Script) (before : List Ext) (ext : Ext) : Type 0 whe
 pub record IsGroupHistory (script : Script) (exts : List Ext) : Type 0 where
   pub group : IsGroup script
   pub few : length exts ≤ 100000
-  pub known : All (IsExtOf script) exts
+  pub known : Each (IsExtOf script) exts
   pub allowed : (before : List Ext) (ext : Ext) (later : List Ext) → exts ≡ before ++ ext ∷ later
       → IsFree ext.cause ⊎ (IsWire script before ext ⊎ IsRebinding script before ext)
