@@ -1,3 +1,4 @@
+pub mod lists
 pub mod trace
 pub mod order
 pub mod consensus

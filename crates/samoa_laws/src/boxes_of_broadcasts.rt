@@ -8,7 +8,8 @@ ghost use Rattle.samoa_model.specs.declared.handler.Moment.{Moment};
 ghost use Rattle.samoa_model.specs.declared.handler.Outcome.TheVariants as gives;
 ghost use Rattle.samoa_serial.specs.declared.message.Message.{Message};
 ghost use Rattle.samoa_model.specs.declared.setup.Setup.{Setup};
-ghost use Rattle.samoa_laws.specs.order.Lists.{In, IsPrefix, Comparable, first_places, first_of_keys};
+ghost use Rattle.samoa_laws.specs.lists.Lists.{Begins, Comparable, In};
+ghost use Rattle.samoa_laws.specs.lists.Messages.{first_of_keys, first_places};
 ghost use Rattle.samoa_laws.specs.order.Boxes.{BoxStep, WasCast, left_by, raised_by, called_up};
 ghost use Rattle.samoa_laws.specs.order.Abcast.{abcast_opening, AbcastMay, IsAbcast, IsAbcastBox, up_to, WasDecided, WasHeard};
 ghost use Rattle.samoa_laws.specs.order.Seqcast.{seqcast_opening, SeqcastMay, IsSeqcast, IsSeqcastBox, told_by, told, numbered, WasSubmitted};
@@ -26,7 +27,7 @@ pub fn abcast_order()
 /// so of two boxes one list is a prefix of the other. This holds of the sequencer's own box too. What is called up was submitted to the sequencer.
 /// A box of another node numbers nothing.
 pub fn seqcast_order()
-    ensures numbered { (sequencer setup : Setup) (numbering steps : List (BoxStep SeqcastState)) → IsSeqcastBox sequencer numbering → IsSeqcast setup (told numbering) steps → length numbering < 2 ^ 32 → length steps < 2 ^ 32 → IsPrefix (first_places (called_up steps)) (numbered numbering) }
+    ensures numbered { (sequencer setup : Setup) (numbering steps : List (BoxStep SeqcastState)) → IsSeqcastBox sequencer numbering → IsSeqcast setup (told numbering) steps → length numbering < 2 ^ 32 → length steps < 2 ^ 32 → Begins (first_places (called_up steps)) (numbered numbering) }
     ensures prefix { (sequencer setup other : Setup) (numbering steps more : List (BoxStep SeqcastState)) → IsSeqcastBox sequencer numbering → IsSeqcast setup (told numbering) steps → IsSeqcast other (told numbering) more → length numbering < 2 ^ 32 → length steps < 2 ^ 32 → length more < 2 ^ 32 → Comparable (first_places (called_up steps)) (first_places (called_up more)) }
     ensures own { (sequencer setup : Setup) (numbering steps : List (BoxStep SeqcastState)) → IsSeqcast sequencer (told numbering) numbering → IsSeqcast setup (told numbering) steps → length numbering < 2 ^ 32 → length steps < 2 ^ 32 → Comparable (first_places (called_up numbering)) (first_places (called_up steps)) }
     ensures valid { (sequencer setup : Setup) (numbering steps : List (BoxStep SeqcastState)) → IsSeqcastBox sequencer numbering → IsSeqcast setup (told numbering) steps → length numbering < 2 ^ 32 → length steps < 2 ^ 32 → (m : Message) → In m (called_up steps) → WasSubmitted numbering m }

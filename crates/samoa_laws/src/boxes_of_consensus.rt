@@ -7,7 +7,7 @@ ghost use Rattle.samoa_model.specs.declared.handler.Moment.{Moment};
 ghost use Rattle.samoa_model.specs.declared.handler.Outcome.TheVariants as gives;
 ghost use Rattle.samoa_serial.specs.declared.message.Message.{Message};
 ghost use Rattle.samoa_model.specs.declared.setup.Setup.{Setup};
-ghost use Rattle.samoa_laws.specs.order.Lists.{In};
+ghost use Rattle.samoa_laws.specs.lists.Lists.{In};
 ghost use Rattle.samoa_laws.specs.order.Boxes.{left_by};
 ghost use Rattle.samoa_laws.specs.consensus.Consensus.{cons_opening, NodeStep, box_of, letter_by, announced_by, decided_by, decided, IsConsensus, IsSetUp, decision_of, WasProposed};
 

@@ -9,11 +9,12 @@ ghost use Rattle.samoa_model.specs.declared.handler.Reply.{Reply};
 ghost use Rattle.samoa_model.specs.declared.ids.EventId.{EventId};
 ghost use Rattle.samoa_model.specs.declared.setup.Setup.{Setup};
 ghost use Rattle.samoa_serial.specs.declared.message.Message.{Message};
-ghost use Rattle.samoa_laws.specs.replacement.Lists.{IsPrefix, Comparable, EndsOnlyIn, IsApart, firsts, unknown};
+ghost use Rattle.samoa_laws.specs.lists.Lists.{Begins, Comparable, EndsOnlyIn, IsApart};
+ghost use Rattle.samoa_laws.specs.lists.Messages.{first_places};
 ghost use Rattle.samoa_serial.specs.State.{ReplState};
 ghost use Rattle.samoa_serial.specs.Rows.{word};
 ghost use Rattle.samoa_serial.specs.ReplTable.{repl_step};
-ghost use Rattle.samoa_laws.specs.replacement.History.{Step, left_by, frame_of, given, IsHistory, GoesOn, Ready, HandedOn, begun, marked_in, marks, stream, asked, asked_by, asked_at, of_epoch, below, same_message, is_turn, turns_of, up_to, fresh, said_of, begin_alike};
+ghost use Rattle.samoa_laws.specs.replacement.History.{Step, left_by, frame_of, given, IsHistory, GoesOn, Ready, HandedOn, begun, marked_in, marks, stream, asked, asked_by, asked_at, of_epoch, below, is_turn, turns_of, up_to, fresh, said_of, begin_alike};
 ghost use Rattle.samoa_laws.specs.replacement.Casts.{handler_of, switches, IsRebound, IsCast};
 ghost use Rattle.samoa_laws.specs.replacement.Trace.{Item, box_of, awaited, IsTrace, AllSwitched};
 ghost use Rattle.samoa_laws.specs.replacement.Group.{Up, IsGroup, IsOrdered};
@@ -32,13 +33,13 @@ pub fn marks_what_was_handed_on()
 /// Of each epoch up to the present one, the marked messages begin those that `deliver` began with: those whose pair was
 /// not marked in an earlier epoch, each at its first place.
 pub fn marks_what_began()
-    ensures { (setup : Setup) (steps : List Step) → IsHistory setup steps → length steps < 2 ^ 64 → (e : ℕ) → e ≤ (left_by steps).epoch → IsPrefix (of_epoch e (marks steps)) (fresh (below e (marks steps)) (of_epoch e (begun steps))) }
+    ensures { (setup : Setup) (steps : List Step) → IsHistory setup steps → length steps < 2 ^ 64 → (e : ℕ) → e ≤ (left_by steps).epoch → Begins (of_epoch e (marks steps)) (fresh (below e (marks steps)) (of_epoch e (begun steps))) }
 {}
 
 /// Two boxes that reached an epoch with the same marks below it, and whose messages of the epoch began with comparable
 /// first places, mark comparable messages of it.
 pub fn marks_of_one_epoch()
-    ensures { (setup other : Setup) (steps others : List Step) → IsHistory setup steps → IsHistory other others → length steps < 2 ^ 64 → length others < 2 ^ 64 → (e : ℕ) → e ≤ (left_by steps).epoch → e ≤ (left_by others).epoch → below e (marks steps) ≡ below e (marks others) → Comparable (firsts same_message unknown (of_epoch e (begun steps))) (firsts same_message unknown (of_epoch e (begun others))) → Comparable (of_epoch e (marks steps)) (of_epoch e (marks others)) }
+    ensures { (setup other : Setup) (steps others : List Step) → IsHistory setup steps → IsHistory other others → length steps < 2 ^ 64 → length others < 2 ^ 64 → (e : ℕ) → e ≤ (left_by steps).epoch → e ≤ (left_by others).epoch → below e (marks steps) ≡ below e (marks others) → Comparable (first_places (of_epoch e (begun steps))) (first_places (of_epoch e (begun others))) → Comparable (of_epoch e (marks steps)) (of_epoch e (marks others)) }
 {}
 
 /// The marks of an epoch that was left end with its one change message, and those of the present epoch have none.
@@ -52,7 +53,7 @@ pub fn change_messages()
 pub fn stream_of_a_box()
     ensures words { (setup : Setup) (steps : List Step) → IsHistory setup steps → GoesOn steps → given steps ≡ None → stream steps ≡ said_of (length setup.changes) (marks steps) }
     ensures apart { (setup : Setup) (steps : List Step) → IsHistory setup steps → GoesOn steps → length steps < 2 ^ 64 → IsApart begin_alike (stream steps) }
-    ensures grows { (later earlier : List Step) → IsPrefix (stream earlier) (stream (later ++ earlier)) }
+    ensures grows { (later earlier : List Step) → Begins (stream earlier) (stream (later ++ earlier)) }
 {}
 
 /// Where nothing waits for its resume, what was asked for is what the marked change messages ask for, in order; and

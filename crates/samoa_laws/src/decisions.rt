@@ -9,7 +9,7 @@ ghost use Rattle.samoa_laws.specs.trace.Group.{IsGroupHistory, handler};
 ghost use Rattle.samoa_serial.specs.Lists.{In};
 ghost use Rattle.samoa_laws.specs.trace.Trace.{HandlerStep, trace};
 ghost use Rattle.samoa_laws.specs.trace.Transport.{BeginsAt};
-ghost use Rattle.samoa_laws.specs.order.Lists.{IsPrefix};
+ghost use Rattle.samoa_laws.specs.lists.Lists.{Begins};
 ghost use Rattle.samoa_laws.specs.consensus.Consensus.{IsConsensus, decided};
 ghost use Rattle.samoa_laws.specs.agreement.AtBoxes.{cons_setup, cons_steps};
 ghost use Rattle.samoa_laws.specs.agreement.Decisions.{HasDecided, WasProposed, decision};
@@ -17,9 +17,9 @@ ghost use Rattle.samoa_laws.specs.agreement.Decisions.{HasDecided, WasProposed, 
 /// Decisions agree: where the boxes of consensus at two nodes, each after some first part of a group history, both have a
 /// decision of an instance, it is the same. It is the decision of the whole history.
 pub fn decisions_agree()
-    ensures equal { (script : Script) (exts before other : List Ext) → IsGroupHistory script exts → IsPrefix before exts → IsPrefix other exts
+    ensures equal { (script : Script) (exts before other : List Ext) → IsGroupHistory script exts → Begins before exts → Begins other exts
         → (v u i : ℕ) (m n : Message) → HasDecided script before v i m → HasDecided script other u i n → m ≡ n }
-    ensures standing { (script : Script) (exts before : List Ext) → IsGroupHistory script exts → IsPrefix before exts
+    ensures standing { (script : Script) (exts before : List Ext) → IsGroupHistory script exts → Begins before exts
         → (v i : ℕ) (m : Message) → HasDecided script before v i m → decision script exts i ≡ Some m }
 {}
 
@@ -41,5 +41,5 @@ pub fn consensus_steps_are_a_history()
 
 /// The first part of a group history is a group history.
 pub fn first_parts_are_histories()
-    ensures history { (script : Script) (exts before : List Ext) → IsGroupHistory script exts → IsPrefix before exts → IsGroupHistory script before }
+    ensures history { (script : Script) (exts before : List Ext) → IsGroupHistory script exts → Begins before exts → IsGroupHistory script before }
 {}

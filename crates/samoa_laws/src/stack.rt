@@ -8,7 +8,7 @@ ghost use Rattle.samoa_laws.specs.trace.Group.{IsGroupHistory};
 ghost use Rattle.samoa_laws.specs.trace.Trace.{trace};
 ghost use Rattle.samoa_laws.specs.replacement.Group.{IsOrdered};
 ghost use Rattle.samoa_laws.specs.replacement.History.{begin_alike};
-ghost use Rattle.samoa_laws.specs.replacement.Lists.{Comparable, IsApart};
+ghost use Rattle.samoa_laws.specs.lists.Lists.{Comparable, IsApart};
 ghost use Rattle.samoa_laws.specs.stream.Ordered.{AreSubmitted, KeepsOrder, protocol, ups_at};
 ghost use Rattle.samoa_laws.specs.stream.Streams.{repl_at, stream_at};
 ghost use Rattle.samoa_laws.specs.group.Decided.{decided_at};

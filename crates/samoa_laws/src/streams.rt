@@ -7,7 +7,7 @@ ghost use Rattle.samoa_laws.specs.trace.Group.{IsGroupHistory};
 ghost use Rattle.samoa_laws.specs.replacement.Casts.{IsRebound};
 ghost use Rattle.samoa_laws.specs.replacement.Group.{IsOrdered};
 ghost use Rattle.samoa_laws.specs.replacement.History.{GoesOn, IsHistory, begin_alike, stream};
-ghost use Rattle.samoa_laws.specs.replacement.Lists.{Comparable, IsApart, IsPrefix};
+ghost use Rattle.samoa_laws.specs.lists.Lists.{Begins, Comparable, IsApart};
 ghost use Rattle.samoa_laws.specs.stream.Ordered.{AreSubmitted, KeepsOrder, protocol, ups_at};
 ghost use Rattle.samoa_laws.specs.stream.Streams.{repl_at, repl_setup, stream_at};
 
@@ -18,7 +18,7 @@ pub fn no_message_comes_twice()
 
 /// A stream only grows.
 pub fn streams_grow()
-    ensures grown { (script : Script) (before later : List Ext) (v : ℕ) → IsPrefix (stream_at script before v) (stream_at script (before ++ later) v) }
+    ensures grown { (script : Script) (before later : List Ext) (v : ℕ) → Begins (stream_at script before v) (stream_at script (before ++ later) v) }
 {}
 
 /// The steps of the replacement layer at a node are a history of its box, in which what is given is resumed at once. It is

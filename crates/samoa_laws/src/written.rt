@@ -12,7 +12,7 @@ ghost use Rattle.samoa_serial.specs.Lists.{Each};
 ghost use Rattle.samoa_serial.specs.Report.{report_of};
 ghost use Rattle.samoa_serial.specs.Ticks.{admitted, admitted_to};
 ghost use Rattle.samoa_laws.specs.trace.Group.{IsGroup, IsGroupHistory};
-ghost use Rattle.samoa_laws.specs.replacement.Lists.{Comparable, IsApart, IsPrefix};
+ghost use Rattle.samoa_laws.specs.lists.Lists.{Begins, Comparable, IsApart};
 ghost use Rattle.samoa_laws.specs.stream.Streams.{stream_at};
 ghost use Rattle.samoa_laws.specs.text.Told.{alike, told_at};
 ghost use Rattle.samoa_laws.specs.text.Deliveries.{HasNames, deliveries, texts};
@@ -34,7 +34,7 @@ pub fn valid_scripts_have_names()
 
 /// What the beginning of a text tells begins what the text tells.
 pub fn texts_tell_more_and_more()
-    ensures begins { (v : ℕ) (name first whole : List ℕ) → IsPrefix first whole → IsPrefix (told_at v name first) (told_at v name whole) }
+    ensures begins { (v : ℕ) (name first whole : List ℕ) → Begins first whole → Begins (told_at v name first) (told_at v name whole) }
 {}
 
 /// The report of a script of the group stack tells the streams of its nodes. Of the streams that two beginnings of it tell, with
@@ -43,9 +43,9 @@ pub fn written_streams_agree()
     ensures told { (script : Script) (calls : Bool) (v : ℕ) → IsGroup script → IsInRange script
         → stream_in (report_in_full script calls) v ≡ texts (stream_at script (admitted script) v) }
     ensures order { (script : Script) (calls others : Bool) (first second : List ℕ) (v u : ℕ) → IsGroup script → IsInRange script
-        → IsPrefix first (report_in_full script calls) → IsPrefix second (report_in_full script others) → Comparable (stream_in first v) (stream_in second u) }
+        → Begins first (report_in_full script calls) → Begins second (report_in_full script others) → Comparable (stream_in first v) (stream_in second u) }
     ensures apart { (script : Script) (calls : Bool) (first : List ℕ) (v : ℕ) → IsGroup script → IsInRange script
-        → IsPrefix first (report_in_full script calls) → IsApart alike (stream_in first v) }
+        → Begins first (report_in_full script calls) → IsApart alike (stream_in first v) }
 {}
 
 /// The same of the report of any group history.
@@ -53,9 +53,9 @@ pub fn reports_of_group_histories_agree()
     ensures told { (script : Script) (calls : Bool) (exts : List Ext) (v : ℕ) → IsInRange script → IsGroupHistory script exts
         → stream_in (report_of script calls exts) v ≡ texts (stream_at script exts v) }
     ensures order { (script : Script) (calls others : Bool) (exts : List Ext) (first second : List ℕ) (v u : ℕ) → IsInRange script → IsGroupHistory script exts
-        → IsPrefix first (report_of script calls exts) → IsPrefix second (report_of script others exts) → Comparable (stream_in first v) (stream_in second u) }
+        → Begins first (report_of script calls exts) → Begins second (report_of script others exts) → Comparable (stream_in first v) (stream_in second u) }
     ensures apart { (script : Script) (calls : Bool) (exts : List Ext) (first : List ℕ) (v : ℕ) → IsInRange script → IsGroupHistory script exts
-        → IsPrefix first (report_of script calls exts) → IsApart alike (stream_in first v) }
+        → Begins first (report_of script calls exts) → IsApart alike (stream_in first v) }
 {}
 
 /// What is appended to a sink for a script of the group stack tells one order: `prefix` where it begins the report, `followed`

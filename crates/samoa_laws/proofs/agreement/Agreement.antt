@@ -21,7 +21,7 @@ use Rattle.samoa_laws.proofs.trace.Shapes.{ConsSays}
 use Rattle.samoa_laws.proofs.trace.Steps.{trace-rest}
 use Rattle.samoa_laws.proofs.trace.Worlds.{group_setup}
 use Rattle.samoa_laws.specs.order.Boxes.{left_by}
-use Rattle.samoa_laws.specs.order.Lists.{IsPrefix}
+use Rattle.samoa_laws.specs.lists.Lists.{Begins}
 use Rattle.samoa_laws.proofs.order.Maps.{message_of_in}
 use Rattle.samoa_laws.specs.consensus.Consensus.{IsConsensus, NodeStep, box_of, cons_opening, decided, decided_by}
 use Rattle.samoa_laws.specs.consensus.Consensus as consensus
@@ -49,12 +49,12 @@ decision_is script exts history i m there =
     is_decision script.nodes (cons_setup script) (cons_steps (trace script exts)) (set_up script) (cons_history script exts history) i m there
 
 -- so is what a box has decided after a part of the history
-box_decided : (script : Script) (exts : List Ext) → IsGroupHistory script exts → (before : List Ext) → IsPrefix before exts → (v i : ℕ) (m : Message) → HasDecided script before v i m
+box_decided : (script : Script) (exts : List Ext) → IsGroupHistory script exts → (before : List Ext) → Begins before exts → (v i : ℕ) (m : Message) → HasDecided script before v i m
     → In (i, m) (decided (cons_steps (trace script exts)))
 box_decided script exts history before part v i m d =
-    let p : Point script exts before = point_at script exts before part.rest (sym part.is) in
+    let p : Point script exts before = point_at script exts before part.rest part.is in
     let x : Extends script before part.rest = trace-extends script before part.rest in
-    let whole : trace script exts ≡ x.more ++ trace script before = ap (λ (xs : List Ext). trace script xs) (sym part.is) ∙ x.is in
+    let whole : trace script exts ≡ x.more ++ trace script before = ap (λ (xs : List Ext). trace script xs) part.is ∙ x.is in
     let left : ConsState = left_by cons_opening (box_of (cons_steps (trace script before)) v) in
     let found : OfCons d.state ≡ OfCons left = sym d.found ∙ (p.found v 3 ∙ state_is cons_kind script exts history.group (trace script before) p.fact v) in
     let same : d.state ≡ left = cc in
@@ -63,14 +63,14 @@ box_decided script exts history before part v i m d =
     (ap (λ (s : ConsState). message_of s.decisions i) (sym same) ∙ d.decision) in
     subst (λ (past : List HandlerStep). In (i, m) (decided (cons_steps past))) (sym whole) (decided-later x.more (trace script before) (i, m) there)
 
-pub standing : (script : Script) (exts : List Ext) → IsGroupHistory script exts → (before : List Ext) → IsPrefix before exts → (v i : ℕ) (m : Message) → HasDecided script before v i m
+pub standing : (script : Script) (exts : List Ext) → IsGroupHistory script exts → (before : List Ext) → Begins before exts → (v i : ℕ) (m : Message) → HasDecided script before v i m
     → decision script exts i ≡ Some m
 standing script exts history before part v i m d = decision_is script exts history i m (box_decided script exts history before part v i m d)
 
 same_some : (m other : Message) → Some m ≡ Some other → m ≡ other
 same_some m other e = cc
 
-pub agree : (script : Script) (exts before other : List Ext) → IsGroupHistory script exts → IsPrefix before exts → IsPrefix other exts
+pub agree : (script : Script) (exts before other : List Ext) → IsGroupHistory script exts → Begins before exts → Begins other exts
     → (v u i : ℕ) (m n : Message) → HasDecided script before v i m → HasDecided script other u i n → m ≡ n
 agree script exts before other history part part' v u i m n d d' =
     same_some m n (sym (standing script exts history before part v i m d) ∙ standing script exts history other part' u i n d')

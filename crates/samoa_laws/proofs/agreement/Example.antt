@@ -9,7 +9,7 @@ use Rattle.samoa_serial.specs.Whole.{Ran}
 use Rattle.samoa_serial.specs.declared.message.Message.{Message}
 use Rattle.samoa_laws.specs.trace.Group.{IsFree, IsGroupHistory, IsRebinding, IsWire, event, group_changes, group_decls, group_events, group_micros}
 use Rattle.std.specs.Prelude.{⊤}
-use Rattle.samoa_laws.specs.order.Lists.{IsPrefix}
+use Rattle.samoa_laws.specs.lists.Lists.{Begins}
 use Rattle.samoa_laws.specs.agreement.AtBoxes.{cons_of}
 use Rattle.samoa_laws.specs.agreement.Decisions.{HasDecided, decision}
 use Rattle.samoa_laws.proofs.agreement.Agreement.{agree}
@@ -123,5 +123,5 @@ history = record {
 }
 
 -- so no node ever has another decision of instance 1
-only_one : (before : List Ext) → IsPrefix before exts → (v : ℕ) (m : Message) → HasDecided script before v 1 m → m ≡ message
-only_one before part v m d = agree script exts before exts history part (record { rest = []; is = append-nil exts }) v 0 1 m message d standing
+only_one : (before : List Ext) → Begins before exts → (v : ℕ) (m : Message) → HasDecided script before v 1 m → m ≡ message
+only_one before part v m d = agree script exts before exts history part (record { rest = []; is = sym (append-nil exts) }) v 0 1 m message d standing

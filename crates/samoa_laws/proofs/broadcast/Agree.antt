@@ -14,12 +14,13 @@ use Rattle.samoa_laws.proofs.trace.Accepted.{group_length}
 use Rattle.samoa_serial.proofs.ListLaws.{in_append, in_left}
 use Rattle.samoa_laws.proofs.trace.Points.{trace-is_trace}
 use Rattle.samoa_laws.proofs.trace.Worlds.{event_for}
-use Rattle.samoa_laws.specs.order.Lists.{Comparable, IsPrefix, first_places, same_message}
+use Rattle.samoa_laws.proofs.lists.Lists.{comparable_begins}
+use Rattle.samoa_laws.proofs.lists.Messages.{first_places_begin}
+use Rattle.samoa_laws.specs.lists.Lists.{Begins, Comparable}
+use Rattle.samoa_laws.specs.lists.Messages.{first_places, same_message}
 use Rattle.samoa_laws.specs.order.Abcast.{IsAbcast, IsAbcastBox, listed}
 use Rattle.samoa_laws.specs.order.Boxes.{called_up}
 use Rattle.samoa_laws.specs.order.Seqcast.{IsSeqcast, IsSeqcastBox, told}
-use Rattle.samoa_laws.proofs.order.Comparables.{beginnings}
-use Rattle.samoa_laws.proofs.order.Lists.{firsts_prefix}
 use Rattle.samoa_laws.proofs.order.AbcastHistories as abcast
 use Rattle.samoa_laws.proofs.order.SeqcastHistories as seqcast
 use Rattle.samoa_laws.specs.broadcast.Begun.{AreProposed, IsAheadBy, IsCastDown, IsDecided, IsHandedOn, IsPart, WasSubmitted, abcast_of, abcast_steps, begun, begun_by, caller, delivered_by, seqcast_of, seqcast_steps, with_caller}
@@ -83,14 +84,14 @@ is_ahead b script exts history v past part =
     ahead (called_up (steps_of b v past)) (begun_by b.number v past) (calling b v past) (called_is_begun b script exts history v past (part_trace script exts past part))
 
 is_beginning : {S : Type 0} (b : Box S) (script : Script) (exts : List Ext) → IsGroupHistory script exts → (v : ℕ) (past : List HandlerStep) → IsPart script exts past
-    → IsPrefix (begun_by b.number v past) (called_up (steps_of b v past))
+    → Begins (begun_by b.number v past) (called_up (steps_of b v past))
 is_beginning b script exts history v past part =
-    record { rest = listed (calling b v past); is = sym (called_is_begun b script exts history v past (part_trace script exts past part)) }
+    record { rest = listed (calling b v past); is = called_is_begun b script exts history v past (part_trace script exts past part) }
 
 first_beginning : {S : Type 0} (b : Box S) (script : Script) (exts : List Ext) → IsGroupHistory script exts → (v : ℕ) (past : List HandlerStep) → IsPart script exts past
-    → IsPrefix (first_places (begun_by b.number v past)) (first_places (called_up (steps_of b v past)))
+    → Begins (first_places (begun_by b.number v past)) (first_places (called_up (steps_of b v past)))
 first_beginning b script exts history v past part =
-    firsts_prefix same_message (begun_by b.number v past) (called_up (steps_of b v past)) (is_beginning b script exts history v past part)
+    first_places_begin (begun_by b.number v past) (called_up (steps_of b v past)) (is_beginning b script exts history v past part)
 
 was_called : {S : Type 0} (b : Box S) (script : Script) (exts : List Ext) → IsGroupHistory script exts → (v : ℕ) (past : List HandlerStep) → IsPart script exts past
     → (m : Message) → In m (begun_by b.number v past) → In m (called_up (steps_of b v past))
@@ -107,7 +108,7 @@ pub abcast_agrees : (decision : ℕ → Option Message) (script : Script) (exts 
     → IsPart script exts past → IsPart script exts other → IsDecided script exts decision
     → Comparable (first_places (begun_by 4 v past)) (first_places (begun_by 4 u other))
 abcast_agrees decision script exts past other v u history part part' decided =
-    beginnings (first_places (called_up (abcast_steps v past))) (first_places (called_up (abcast_steps u other))) (first_places (begun_by 4 v past)) (first_places (begun_by 4 u other))
+    comparable_begins (first_places (called_up (abcast_steps v past))) (first_places (called_up (abcast_steps u other))) (first_places (begun_by 4 v past)) (first_places (begun_by 4 u other))
     (abcast.orders_agree decision (setup_of script v 4) (setup_of script u 4) (abcast_steps v past) (abcast_steps u other)
     (is_abcast decision script exts past v history part decided)
     (is_abcast decision script exts other u history part' decided)
@@ -119,7 +120,7 @@ pub seqcast_agrees : (script : Script) (exts : List Ext) (past other : List Hand
     → Comparable (first_places (begun_by 5 v past)) (first_places (begun_by 5 u other))
 seqcast_agrees script exts past other v u history part part' =
     let own = is_seqcast_box script exts (trace script exts) 0 history (part_of_itself script exts) in
-    beginnings (first_places (called_up (seqcast_steps v past))) (first_places (called_up (seqcast_steps u other))) (first_places (begun_by 5 v past)) (first_places (begun_by 5 u other))
+    comparable_begins (first_places (called_up (seqcast_steps v past))) (first_places (called_up (seqcast_steps u other))) (first_places (begun_by 5 v past)) (first_places (begun_by 5 u other))
     (seqcast.orders_agree (setup_of script 0 5) (seqcast_steps 0 (trace script exts)) own.0 own.1 (setup_of script v 5) (setup_of script u 5) (seqcast_steps v past) (seqcast_steps u other)
     (is_seqcast script exts past v history part) (is_seqcast script exts other u history part')
     (seqcast_short script exts history v past part) (seqcast_short script exts history u other part'))

@@ -24,7 +24,8 @@ use Rattle.samoa_serial.proofs.ListLaws.{in_middle}
 use Rattle.samoa_laws.proofs.trace.Steps.{IsAt, IsAway, at_or_away, setting, state_at-away, state_at-here, trace-rest}
 use Rattle.samoa_laws.proofs.trace.Worlds.{group_micro, group_setup, setup_from, step_is}
 use Rattle.samoa_laws.specs.order.Boxes.{BoxStep, IsHistory, left_by, noted, raised, raised_by}
-use Rattle.samoa_laws.proofs.order.Lists.{in_end, in_left}
+use Rattle.samoa_laws.proofs.lists.Lists.{in_end}
+use Rattle.samoa_serial.proofs.ListLaws.{in_left}
 use Rattle.samoa_laws.specs.broadcast.Begun.{box_step, box_steps}
 
 -- a box of the group stack: its number, its states among all states, its table and its opening state. It calls upwards
@@ -196,7 +197,7 @@ is_history {S} b script exts group v May (x ∷ past) trace may =
 -- ---- a call upwards is counted
 in_noted : {A : Type 0} (xs : List A) (o : Option A) (counts : Bool) (e : A) → In e xs → In e (noted xs o counts)
 in_noted xs None counts e i = i
-in_noted xs (Some y) true e i = in_left xs (y ∷ []) e i
+in_noted xs (Some y) true e i = in_left e xs (y ∷ []) i
 in_noted xs (Some y) false e i = i
 
 pub noted_new : {A : Type 0} (xs : List A) (o : Option A) (counts : Bool) (e : A) → o ≡ Some e → counts ≡ true → In e (noted xs o counts)

@@ -10,7 +10,7 @@ use Rattle.samoa_serial.specs.declared.message.Message.{Message}
 use Rattle.samoa_serial.specs.declared.message.Instance.{Instance}
 use Rattle.samoa_serial.specs.declared.message.Estimate.{Estimate}
 use Rattle.samoa_serial.specs.declared.message.Letter.{Letter}
-use Rattle.samoa_laws.specs.order.Lists.{In}
+use Rattle.samoa_laws.specs.lists.Lists.{In}
 use Rattle.samoa_laws.proofs.consensus.Majorities.{coordinator_of}
 use Rattle.samoa_laws.proofs.consensus.Entries.{IsRising}
 use Rattle.samoa_laws.proofs.consensus.Locked.{Put, Facts, senders, Backing, IsLocked, IsSafe}
@@ -97,8 +97,8 @@ pub record Inv (Phi : ℕ → Message → Type 0) (n : ℕ) (states : ℕ → Co
   pub announced : (i : ℕ) (m : Message) → In (i, m) an → IsLocked n (facts_of ls an i) m
   pub decided : (i : ℕ) (m : Message) → In (i, m) ds → In (i, m) an
 
-same_message : (c : Option Message) (m m' : Message) → c ≡ Some m → c ≡ Some m' → m ≡ m'
-same_message c m m' e e' = cc
+one_message : (c : Option Message) (m m' : Message) → c ≡ Some m → c ≡ Some m' → m ≡ m'
+one_message c m m' e e' = cc
 
 -- a proposal of an instance is at its coordinator
 pub put_made : (Phi : ℕ → Message → Type 0) (n : ℕ) (states : ℕ → ConsState) (ls : List Letter) (an ds : List (ℕ × Message)) → Inv Phi n states ls an ds
@@ -109,7 +109,7 @@ pub safe : (Phi : ℕ → Message → Type 0) (n : ℕ) (states : ℕ → ConsSt
     → (i : ℕ) → IsSafe n (facts_of ls an i)
 safe Phi n states ls an ds inv i = record {
   unique = λ p q hp hq e.
-      same_message (round_at (states (coordinator_of n p.round)).rounds (ballot i p.round)).proposal p.message q.message
+      one_message (round_at (states (coordinator_of n p.round)).rounds (ballot i p.round)).proposal p.message q.message
       (put_made Phi n states ls an ds inv (ballot i p.round) p.message hp)
       (subst (λ (r : ℕ). (round_at (states (coordinator_of n r)).rounds (ballot i r)).proposal ≡ Some q.message) (sym e)
       (put_made Phi n states ls an ds inv (ballot i q.round) q.message hq));

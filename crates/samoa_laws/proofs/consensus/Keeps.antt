@@ -13,8 +13,9 @@ use Rattle.samoa_serial.specs.declared.message.Message.{Message}
 use Rattle.samoa_serial.specs.declared.message.Instance.{Instance}
 use Rattle.samoa_serial.specs.declared.message.Estimate.{Estimate}
 use Rattle.samoa_serial.specs.declared.message.Letter.{Letter}
-use Rattle.samoa_laws.specs.order.Lists.{In}
-use Rattle.samoa_laws.proofs.order.Lists.{in_left, in_end, in_split, in_mapped}
+use Rattle.samoa_laws.proofs.lists.Lists.{in_end, in_mapped, in_split}
+use Rattle.samoa_laws.specs.lists.Lists.{In}
+use Rattle.samoa_serial.proofs.ListLaws.{in_left}
 use Rattle.samoa_laws.proofs.order.Maps.{HasMore, with_message_is}
 use Rattle.samoa_laws.proofs.consensus.Majorities.{majority_of, coordinator_of, distinct_end}
 use Rattle.samoa_laws.proofs.consensus.Locked.{senders, Backing, IsLocked}
@@ -26,10 +27,10 @@ some_is a b e = cc
 
 -- ---- more is said
 told_more : (ls : List Letter) (an : List (ℕ × Message)) (l : Letter) → Sub ls an (ls ++ l ∷ []) an
-told_more ls an l = record { told = λ k h. in_left ls (l ∷ []) k h; announced = λ i m h. h }
+told_more ls an l = record { told = λ k h. in_left k ls (l ∷ []) h; announced = λ i m h. h }
 
 announced_more : (ls : List Letter) (an : List (ℕ × Message)) (i : ℕ) (m : Message) → Sub ls an ls (an ++ (i, m) ∷ [])
-announced_more ls an i m = record { told = λ k h. h; announced = λ j x h. in_left an ((i, m) ∷ []) (j, x) h }
+announced_more ls an i m = record { told = λ k h. h; announced = λ j x h. in_left (j, x) an ((i, m) ∷ []) h }
 
 no_more : (ls : List Letter) (an : List (ℕ × Message)) → Sub ls an ls an
 no_more ls an = record { told = λ k h. h; announced = λ i m h. h }

@@ -3,8 +3,8 @@ use Rattle.std.proofs.Common.{◌≡◌, ◌⊎◌, inl, inr, ℕ, zero, suc, �
 use Rattle.std.specs.List.{IsDistinct}
 use Rattle.samoa_serial.specs.declared.message.Message.{Message}
 use Rattle.samoa_serial.specs.declared.message.Estimate.{Estimate}
-use Rattle.samoa_laws.specs.order.Lists.{In}
-use Rattle.samoa_laws.proofs.order.Lists.{in_mapped}
+use Rattle.samoa_laws.proofs.lists.Lists.{in_mapped}
+use Rattle.samoa_laws.specs.lists.Lists.{In}
 use Rattle.samoa_laws.proofs.consensus.Majorities.{majority_of, majorities_meet}
 
 -- an estimate that was told, by node

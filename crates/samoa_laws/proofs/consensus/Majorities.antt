@@ -6,7 +6,7 @@ use Rattle.std.proofs.lemmas.Map.Keys.{IsDistinct-head, IsDistinct-tail, IsDisti
 use Rattle.std.proofs.lemmas.Map.Steps.{length-le_from_distinct_below}
 use Rattle.std.proofs.lemmas.Cmp.{nat_eq_equiv}
 use Rattle.std.proofs.lemmas.Bool.Decides.{nat_tests}
-use Rattle.samoa_laws.specs.order.Lists.{In}
+use Rattle.samoa_laws.specs.lists.Lists.{In}
 
 -- of n nodes
 abbrev pub majority_of : ℕ → ℕ

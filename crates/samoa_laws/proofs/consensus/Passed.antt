@@ -12,7 +12,7 @@ use Rattle.samoa_serial.specs.declared.message.Message.{Message}
 use Rattle.samoa_serial.specs.declared.message.Instance.{Instance}
 use Rattle.samoa_serial.specs.declared.message.Letter.{Letter}
 use Rattle.samoa_model.specs.declared.setup.Setup.{Setup}
-use Rattle.samoa_laws.specs.order.Lists.{In}
+use Rattle.samoa_laws.specs.lists.Lists.{In}
 use Rattle.samoa_laws.specs.order.Boxes.{left_by, noted}
 use Rattle.samoa_laws.proofs.order.Maps.{HasMore, with_message_is}
 use Rattle.samoa_laws.specs.consensus.Consensus.{cons_opening, NodeStep, box_of, decided_by, decided, Follows, IsConsensus}

@@ -13,8 +13,8 @@ use Rattle.samoa_serial.specs.declared.message.Instance.{Instance}
 use Rattle.samoa_serial.specs.declared.message.Estimate.{Estimate}
 use Rattle.samoa_serial.specs.declared.message.Letter.{Letter}
 use Rattle.samoa_model.specs.declared.setup.Setup.{Setup}
-use Rattle.samoa_laws.specs.order.Lists.{In}
-use Rattle.samoa_laws.proofs.order.Lists.{in_end}
+use Rattle.samoa_laws.proofs.lists.Lists.{in_end}
+use Rattle.samoa_laws.specs.lists.Lists.{In}
 use Rattle.samoa_laws.specs.order.Boxes.{noted}
 use Rattle.samoa_laws.specs.consensus.Consensus.{letter_by, announced_by, decided_by}
 use Rattle.samoa_laws.proofs.consensus.Entries.{found_in, rising_finds}

@@ -22,5 +22,5 @@ has_decided script exts v i m is = go ((serial script exts).states v 3) refl is
 pub decisions : (script : Script) (exts before after earlier later : List Ext) (v u i : ℕ) (m n : Message) → IsGroupHistory script exts
     → exts ≡ before ++ after → exts ≡ earlier ++ later → decided_at script before v i ≡ Some m → decided_at script earlier u i ≡ Some n → m ≡ n
 decisions script exts before after earlier later v u i m n history is also mine yours =
-    agree script exts before earlier history (record { rest = after; is = sym is }) (record { rest = later; is = sym also }) v u i m n
+    agree script exts before earlier history (record { rest = after; is = is }) (record { rest = later; is = also }) v u i m n
     (has_decided script before v i m mine) (has_decided script earlier u i n yours)

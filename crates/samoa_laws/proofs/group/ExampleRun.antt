@@ -12,7 +12,7 @@ use Rattle.samoa_serial.specs.Whole.{Ran}
 use Rattle.samoa_serial.specs.declared.message.Message.{Message}
 use Rattle.samoa_serial.specs.Lists.{In}
 use Rattle.samoa_laws.specs.trace.Group.{IsFree, IsGroupHistory, IsRebinding, IsTo, IsWire, change, event, group_changes, group_decls, group_events, group_micros}
-use Rattle.samoa_laws.specs.replacement.Lists.{Comparable}
+use Rattle.samoa_laws.specs.lists.Lists.{Comparable}
 use Rattle.samoa_laws.specs.stream.Streams.{stream_at}
 use Rattle.samoa_laws.proofs.stream.Order.{comparable}
 use Rattle.samoa_laws.specs.group.Decided.{decided_at}

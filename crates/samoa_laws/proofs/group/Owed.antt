@@ -7,7 +7,8 @@ use Rattle.samoa_serial.specs.Lists as laws
 use Rattle.samoa_laws.specs.trace.Trace.{HandlerStep, trace}
 use Rattle.samoa_laws.specs.trace.Group.{IsGroupHistory}
 use Rattle.samoa_serial.proofs.ListLaws.{in_middle}
-use Rattle.samoa_laws.specs.order.Lists as order
+use Rattle.samoa_laws.specs.lists.Lists.{Comparable}
+use Rattle.samoa_laws.specs.lists.Messages.{first_places}
 use Rattle.samoa_laws.specs.agreement.Decisions as agreed
 use Rattle.samoa_laws.specs.agreement.Decisions.{decision}
 use Rattle.samoa_laws.proofs.agreement.Agreement.{given_decision, valid}
@@ -36,12 +37,12 @@ keeps_order script exts history p broadcast v u = comparable_ups p v u past (go 
     whole : IsPart script exts past
     whole = part_of_itself script exts
 
-    go : IsBroadcast p → order.Comparable (order.first_places (begun_by p v past)) (order.first_places (begun_by p u past))
+    go : IsBroadcast p → Comparable (first_places (begun_by p v past)) (first_places (begun_by p u past))
     go (inl four) =
-        subst (λ (q : ℕ). order.Comparable (order.first_places (begun_by q v past)) (order.first_places (begun_by q u past))) (sym four)
+        subst (λ (q : ℕ). Comparable (first_places (begun_by q v past)) (first_places (begun_by q u past))) (sym four)
         (abcast_agrees (decision script exts) script exts past past v u history whole whole (is_decided script exts history))
     go (inr five) =
-        subst (λ (q : ℕ). order.Comparable (order.first_places (begun_by q v past)) (order.first_places (begun_by q u past))) (sym five)
+        subst (λ (q : ℕ). Comparable (first_places (begun_by q v past)) (first_places (begun_by q u past))) (sym five)
         (seqcast_agrees script exts past past v u history whole whole)
 
 -- ---- validity

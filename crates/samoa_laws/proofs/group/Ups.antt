@@ -7,16 +7,14 @@ use Rattle.samoa_serial.specs.Rows.{message_at}
 use Rattle.samoa_serial.specs.declared.message.Message.{Message}
 use Rattle.samoa_serial.specs.Lists as laws
 use Rattle.samoa_laws.specs.trace.Trace.{HandlerStep}
-use Rattle.samoa_laws.specs.order.Lists as order
-use Rattle.samoa_laws.specs.replacement.Lists as list
+use Rattle.samoa_laws.specs.lists.Lists.{Comparable}
+use Rattle.samoa_laws.specs.lists.Messages.{first_places}
 use Rattle.samoa_serial.specs.Lists.{In}
 use Rattle.samoa_laws.specs.replacement.Group.{Up, called_by, messages_of}
-use Rattle.samoa_laws.specs.replacement.History.{same_message}
 use Rattle.samoa_laws.specs.broadcast.Begun as broadcasts
 use Rattle.samoa_laws.specs.broadcast.Begun.{begun, begun_by, begun_with, delivered_by, with_caller}
 use Rattle.samoa_laws.specs.stream.Ordered.{caller, up_in, ups_at}
 use Rattle.samoa_laws.specs.stream.Streams.{is_repl}
-use Rattle.samoa_laws.proofs.group.FirstPlaces.{comparable_as, first_places_are}
 
 abbrev up_of : ℕ × Message → Up
 up_of e = record { by = e.0; message = e.1 }
@@ -54,19 +52,17 @@ called_are p (e ∷ es) = go (e.0 == p) (called_are p es)
     go false ih = ih
 
 -- of each message the first place, in both forms
-first_called : (p v : ℕ) (past : List HandlerStep) → order.first_places (begun_by p v past) ≡ list.firsts same_message list.unknown (called_by p (ups_at v past))
+first_called : (p v : ℕ) (past : List HandlerStep) → first_places (begun_by p v past) ≡ first_places (called_by p (ups_at v past))
 first_called p v past =
-    first_places_are (begun_by p v past)
-    ∙ ap (list.firsts same_message list.unknown) (called_are p (begun v past) ∙ ap (called_by p) (ups_are v past))
+    ap first_places (called_are p (begun v past) ∙ ap (called_by p) (ups_are v past))
 
-pub comparable_ups : (p v u : ℕ) (past : List HandlerStep) → order.Comparable (order.first_places (begun_by p v past)) (order.first_places (begun_by p u past))
-    → list.Comparable (list.firsts same_message list.unknown (called_by p (ups_at v past))) (list.firsts same_message list.unknown (called_by p (ups_at u past)))
+pub comparable_ups : (p v u : ℕ) (past : List HandlerStep) → Comparable (first_places (begun_by p v past)) (first_places (begun_by p u past))
+    → Comparable (first_places (called_by p (ups_at v past))) (first_places (called_by p (ups_at u past)))
 comparable_ups p v u past c =
-    let mine : List Message = list.firsts same_message list.unknown (called_by p (ups_at v past)) in
-    let yours : List Message = list.firsts same_message list.unknown (called_by p (ups_at u past)) in
-    comparable_as mine yours
-    (subst (λ (ms : List Message). order.Comparable ms yours) (first_called p v past)
-    (subst (λ (ms : List Message). order.Comparable (order.first_places (begun_by p v past)) ms) (first_called p u past) c))
+    let mine : List Message = first_places (called_by p (ups_at v past)) in
+    let yours : List Message = first_places (called_by p (ups_at u past)) in
+    subst (λ (ms : List Message). Comparable ms yours) (first_called p v past)
+    (subst (λ (ms : List Message). Comparable (first_places (begun_by p v past)) ms) (first_called p u past) c)
 
 -- ---- membership
 -- what came up, as a pair, and as a message of its protocol

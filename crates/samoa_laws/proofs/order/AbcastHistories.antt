@@ -7,7 +7,8 @@ use Rattle.samoa_model.specs.declared.handler.Moment.{Moment}
 use Rattle.samoa_model.specs.declared.handler.Outcome.{Outcome}
 use Rattle.samoa_serial.specs.declared.message.Message.{Message}
 use Rattle.samoa_model.specs.declared.setup.Setup.{Setup}
-use Rattle.samoa_laws.specs.order.Lists.{In, Comparable, first_places, first_of_keys}
+use Rattle.samoa_laws.specs.lists.Lists.{Comparable, In}
+use Rattle.samoa_laws.specs.lists.Messages.{first_of_keys, first_places}
 use Rattle.samoa_laws.specs.order.Boxes.{BoxStep, IsStep, left_by, noted, raised_by, raised, called_up}
 use Rattle.samoa_laws.specs.order.Abcast.{abcast_opening, AbcastMay, IsAbcast, up_to, WasDecided}
 use Rattle.samoa_laws.proofs.order.Handed.{few_passed, none_handed, shape, comparable, called_valid}

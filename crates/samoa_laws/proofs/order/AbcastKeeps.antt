@@ -9,10 +9,10 @@ use Rattle.samoa_serial.specs.declared.keys.Key.{Key}
 use Rattle.samoa_serial.specs.declared.message.Message.{Message}
 use Rattle.samoa_model.specs.declared.setup.Setup.{Setup}
 use Rattle.samoa_serial.proofs.DrainLaws.{drain_passes}
-use Rattle.samoa_laws.specs.order.Lists.{In}
+use Rattle.samoa_laws.proofs.lists.Messages.{has_end, has_end_old, up_to_some}
+use Rattle.samoa_laws.specs.lists.Lists.{In}
 use Rattle.samoa_laws.specs.order.Boxes.{noted, raised_by}
 use Rattle.samoa_laws.specs.order.Abcast.{up_to}
-use Rattle.samoa_laws.proofs.order.Lists.{has_end, has_end_old, up_to_some}
 use Rattle.samoa_laws.proofs.order.Maps.{HasMore, with_message_is, has-with_key, some_same}
 use Rattle.samoa_laws.proofs.order.Handed.{Handed, gets_more, skips, hands_on, moves_on, few_passed}
 

@@ -1,5 +1,5 @@
 -- Histories as they come: a call upwards that is cut inside and made again, a decision that is passed over, a cut call; a sequencer that hands on its own messages.
-use Rattle.std.proofs.Common.{◌≡◌, inl, inr, ℕ, Bool, true, false, List, [], ◌∷◌, refl, ap, arith, Option, Some, None, if◌then◌else◌, ◌==◌}
+use Rattle.std.proofs.Common.{sym, ◌≡◌, inl, inr, ℕ, Bool, true, false, List, [], ◌∷◌, refl, ap, arith, Option, Some, None, if◌then◌else◌, ◌==◌}
 use Rattle.samoa_serial.specs.State.{AbcastState, SeqcastState}
 use Rattle.samoa_serial.specs.AbcastTable.{abcast_step}
 use Rattle.samoa_serial.specs.SeqcastTable.{seqcast_step}
@@ -8,7 +8,8 @@ use Rattle.samoa_model.specs.declared.handler.Outcome.{Outcome}
 use Rattle.samoa_model.specs.declared.handler.Reply.{Reply}
 use Rattle.samoa_serial.specs.declared.message.Message.{Message}
 use Rattle.samoa_model.specs.declared.setup.Setup.{Setup}
-use Rattle.samoa_laws.specs.order.Lists.{Comparable, first_places, first_of_keys}
+use Rattle.samoa_laws.specs.lists.Lists.{Comparable}
+use Rattle.samoa_laws.specs.lists.Messages.{first_of_keys, first_places}
 use Rattle.samoa_laws.specs.order.Boxes.{BoxStep, IsStep, left_by, called_up}
 use Rattle.samoa_laws.specs.order.Abcast.{abcast_opening, IsAbcast, up_to}
 use Rattle.samoa_laws.specs.order.Seqcast.{seqcast_opening, told, numbered, IsSeqcast}
@@ -102,11 +103,11 @@ differ k rest j e = ap (λ (m : Message). m.number) (head e)
     head h = cc
 
 no_order : Comparable (first_places (called_up passes_over)) (first_places (called_up one)) → ⊥
-no_order (inl p) = apart (differ 8 p.rest 7 p.is)
+no_order (inl p) = apart (differ 8 p.rest 7 (sym p.is))
   where
     apart : ◌≡◌ {A = ℕ} 8 7 → ⊥
     apart e = omega arith
-no_order (inr p) = apart (differ 7 p.rest 8 p.is)
+no_order (inr p) = apart (differ 7 p.rest 8 (sym p.is))
   where
     apart : ◌≡◌ {A = ℕ} 7 8 → ⊥
     apart e = omega arith

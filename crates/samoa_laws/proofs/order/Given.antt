@@ -8,8 +8,8 @@ use Rattle.samoa_model.specs.declared.handler.Moment.{Moment}
 use Rattle.samoa_model.specs.declared.handler.Outcome.{Outcome}
 use Rattle.samoa_serial.specs.declared.message.Message.{Message}
 use Rattle.samoa_model.specs.declared.setup.Setup.{Setup}
-use Rattle.samoa_laws.specs.order.Lists.{In}
-use Rattle.samoa_laws.proofs.order.Lists.{in_split}
+use Rattle.samoa_laws.proofs.lists.Lists.{in_split}
+use Rattle.samoa_laws.specs.lists.Lists.{In}
 
 -- ---- abcast: an answer to a moment, where the messages that wait are valid
 pub data Given (Psi : Message → Type 0) (setup : Setup) (moment : Moment) (o : Outcome) : Type 0 where

@@ -4,9 +4,11 @@ use Rattle.std.proofs.lemmas.List.{map-append}
 use Rattle.samoa_serial.specs.Rows.{message_key, message_of}
 use Rattle.samoa_serial.specs.AbcastTable.{has_message}
 use Rattle.samoa_serial.specs.declared.message.Message.{Message}
-use Rattle.samoa_laws.specs.order.Lists.{In, Comparable, first_places, first_of_keys}
+use Rattle.samoa_laws.proofs.lists.Lists.{in_end, in_map, in_mapped, in_split}
+use Rattle.samoa_laws.proofs.lists.Messages.{first_of_keys_comparable, first_of_keys_in, first_of_keys_new, first_of_keys_old, first_places_in, first_places_new, first_places_old, in_first_places, in_has, up_to_some}
+use Rattle.samoa_laws.specs.lists.Lists.{Comparable, In}
+use Rattle.samoa_laws.specs.lists.Messages.{first_of_keys, first_places}
 use Rattle.samoa_laws.specs.order.Abcast.{up_to}
-use Rattle.samoa_laws.proofs.order.Lists.{in_map, in_mapped, in_end, in_split, in_first_places, first_places_in, first_places_old, first_places_new, first_of_keys_in, first_of_keys_old, first_of_keys_new, in_has, up_to_some, first_of_keys_comparable}
 use Rattle.samoa_laws.proofs.order.Maps.{IsThere, room}
 
 abbrev pub messages : List (ℕ × Message) → List Message

@@ -9,8 +9,8 @@ use Rattle.samoa_serial.specs.contracts.keys.KeyOrd.TheImpl.{ghosts as keyed}
 use Rattle.samoa_serial.specs.Rows.{same_key, has_key, with_key, message_of, with_message}
 use Rattle.samoa_serial.specs.declared.keys.Key.{Key}
 use Rattle.samoa_serial.specs.declared.message.Message.{Message}
-use Rattle.samoa_laws.specs.order.Lists.{In}
-use Rattle.samoa_laws.proofs.order.Lists.{same_key_equal}
+use Rattle.samoa_laws.proofs.lists.Messages.{same_key_equal}
+use Rattle.samoa_laws.specs.lists.Lists.{In}
 
 -- ---- sets of keys
 keyed_is : (a b : Key) → is_eq (keyed.cmp a b) ≡ same_key b a

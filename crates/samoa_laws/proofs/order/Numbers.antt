@@ -4,9 +4,12 @@ use Rattle.std.proofs.lemmas.List.{length_push}
 use Rattle.samoa_serial.specs.Rows.{message_key, message_of}
 use Rattle.samoa_serial.specs.AbcastTable.{has_message}
 use Rattle.samoa_serial.specs.declared.message.Message.{Message}
-use Rattle.samoa_laws.specs.order.Lists.{In, IsPrefix, first_of_keys}
+use Rattle.samoa_laws.proofs.lists.Lists.{in_split}
+use Rattle.samoa_laws.proofs.lists.Messages.{first_of_keys_new, up_to_begins, up_to_none, up_to_some}
+use Rattle.samoa_laws.specs.lists.Lists.{Begins, In}
+use Rattle.samoa_laws.specs.lists.Messages.{first_of_keys}
+use Rattle.samoa_serial.proofs.ListLaws.{begins-refl}
 use Rattle.samoa_laws.specs.order.Abcast.{listed, up_to}
-use Rattle.samoa_laws.proofs.order.Lists.{in_split, up_to_some, up_to_none, up_to_prefix, first_of_keys_new, prefix_same}
 use Rattle.samoa_laws.proofs.order.Maps.{some_or_none, message_end_cases, message_end_same, message_end_other}
 use Rattle.samoa_laws.proofs.order.Handed.{messages, messages_end}
 
@@ -49,14 +52,14 @@ up_to_past message last (suc k) none (suc n) e =
 either : (a b : ℕ) → (a ≤ b) ⊎ (b ≤ a)
 either a b = grind arith
 
-pub up_to_all : (message : ℕ → Option Message) (last : ℕ) → ((i : ℕ) → last < i → message i ≡ None) → (n : ℕ) → IsPrefix (up_to message n) (up_to message last)
+pub up_to_all : (message : ℕ → Option Message) (last : ℕ) → ((i : ℕ) → last < i → message i ≡ None) → (n : ℕ) → Begins (up_to message n) (up_to message last)
 up_to_all message last none n = go (either n last)
   where
-    go : (n ≤ last) ⊎ (last ≤ n) → IsPrefix (up_to message n) (up_to message last)
-    go (inl le) = up_to_prefix message n last le
+    go : (n ≤ last) ⊎ (last ≤ n) → Begins (up_to message n) (up_to message last)
+    go (inl le) = up_to_begins message n last le
     go (inr le) =
         let same : up_to message n ≡ up_to message last = up_to_past message last (n - last) none n (omega arith) in
-        subst (λ (l : List Message). IsPrefix l (up_to message last)) (sym same) (prefix_same (up_to message last))
+        subst (λ (l : List Message). Begins l (up_to message last)) (sym same) (begins-refl (up_to message last))
 
 -- ---- what was told with numbers
 pub record Told (Psi : Message → Type 0) (ts : List (ℕ × Message)) : Type 0 where

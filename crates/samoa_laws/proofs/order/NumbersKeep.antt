@@ -11,10 +11,10 @@ use Rattle.samoa_model.specs.declared.handler.Outcome.{Outcome}
 use Rattle.samoa_serial.specs.declared.keys.Key.{Key}
 use Rattle.samoa_serial.specs.declared.message.Message.{Message}
 use Rattle.samoa_model.specs.declared.setup.Setup.{Setup}
-use Rattle.samoa_laws.specs.order.Lists.{In}
+use Rattle.samoa_laws.proofs.lists.Messages.{has_end}
+use Rattle.samoa_laws.specs.lists.Lists.{In}
 use Rattle.samoa_laws.specs.order.Boxes.{BoxStep, IsStep, left_by, noted}
 use Rattle.samoa_laws.specs.order.Seqcast.{seqcast_opening, told_by, told, IsSeqcastBox, WasSubmitted}
-use Rattle.samoa_laws.proofs.order.Lists.{has_end}
 use Rattle.samoa_laws.proofs.order.Maps.{has-with_key}
 use Rattle.samoa_laws.proofs.order.Handed.{messages, messages_end}
 use Rattle.samoa_laws.proofs.order.Numbers.{Told, none_told, tells}

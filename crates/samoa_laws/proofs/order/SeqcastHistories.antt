@@ -8,11 +8,12 @@ use Rattle.samoa_model.specs.declared.handler.Moment.{Moment}
 use Rattle.samoa_model.specs.declared.handler.Outcome.{Outcome}
 use Rattle.samoa_serial.specs.declared.message.Message.{Message}
 use Rattle.samoa_model.specs.declared.setup.Setup.{Setup}
-use Rattle.samoa_laws.specs.order.Lists.{In, IsPrefix, Comparable, first_places}
+use Rattle.samoa_laws.proofs.lists.Lists.{begin_one}
+use Rattle.samoa_laws.specs.lists.Lists.{Begins, Comparable, In}
+use Rattle.samoa_laws.specs.lists.Messages.{first_places}
 use Rattle.samoa_laws.specs.order.Boxes.{BoxStep, IsStep, left_by, noted, raised_by, raised, called_up}
 use Rattle.samoa_laws.specs.order.Abcast.{up_to}
 use Rattle.samoa_laws.specs.order.Seqcast.{seqcast_opening, told, numbered, SeqcastMay, IsSeqcast, IsSeqcastBox, WasSubmitted}
-use Rattle.samoa_laws.proofs.order.Lists.{prefixes_comparable}
 use Rattle.samoa_laws.proofs.order.Maps.{HasMore, with_message_is, message_of_in}
 use Rattle.samoa_laws.proofs.order.Handed.{Handed, none_handed, gets_more, hands_on, moves_on, shape, called_valid}
 use Rattle.samoa_laws.proofs.order.Numbers.{Apart, apart_first, up_to_all, Told, none_past}
@@ -184,21 +185,21 @@ kept_of sequencer numbering box short setup steps history small =
 -- what a box calls up, each message at its first place, is a beginning of what the sequencer numbered
 pub order_is : (sequencer : Setup) (numbering : List (BoxStep SeqcastState)) → IsSeqcastBox sequencer numbering → length numbering < 2 ^ 32
     → (setup : Setup) (steps : List (BoxStep SeqcastState)) → IsSeqcast setup (told numbering) steps → length steps < 2 ^ 32
-    → IsPrefix (first_places (called_up steps)) (numbered numbering)
+    → Begins (first_places (called_up steps)) (numbered numbering)
 order_is sequencer numbering box short setup steps history small =
     let ts = told numbering in
     let t : Told (WasSubmitted numbering) (told numbering) = all_told sequencer numbering box short in
     let k : KeptBy (message_of (told numbering)) (length steps) (left_by seqcast_opening steps) (raised steps) = kept_of sequencer numbering box short setup steps history small in
     let is = shape (message_of (told numbering)) Any (left_by seqcast_opening steps).got k.passed (raised steps) k.handed in
-    subst (λ (l : List Message). IsPrefix l (numbered numbering)) (sym (is.1 ∙ apart_first (message_of (told numbering)) t.apart is.0))
-    (subst (λ (l : List Message). IsPrefix (up_to (message_of (told numbering)) is.0) l) t.all
+    subst (λ (l : List Message). Begins l (numbered numbering)) (sym (is.1 ∙ apart_first (message_of (told numbering)) t.apart is.0))
+    (subst (λ (l : List Message). Begins (up_to (message_of (told numbering)) is.0) l) t.all
     (up_to_all (message_of (told numbering)) (length (told numbering)) (none_past (WasSubmitted numbering) (told numbering) t) is.0))
 
 pub orders_agree : (sequencer : Setup) (numbering : List (BoxStep SeqcastState)) → IsSeqcastBox sequencer numbering → length numbering < 2 ^ 32
     → (setup other : Setup) (steps more : List (BoxStep SeqcastState)) → IsSeqcast setup (told numbering) steps → IsSeqcast other (told numbering) more
     → length steps < 2 ^ 32 → length more < 2 ^ 32 → Comparable (first_places (called_up steps)) (first_places (called_up more))
 orders_agree sequencer numbering box short setup other steps more history history' small small' =
-    prefixes_comparable (first_places (called_up steps)) (first_places (called_up more)) (numbered numbering)
+    begin_one (first_places (called_up steps)) (first_places (called_up more)) (numbered numbering)
     (order_is sequencer numbering box short setup steps history small)
     (order_is sequencer numbering box short other more history' small')
 

@@ -6,7 +6,7 @@ use Rattle.samoa_serial.specs.AbcastTable.{abcast_step}
 use Rattle.samoa_model.specs.declared.handler.Outcome.{Outcome}
 use Rattle.samoa_serial.specs.declared.message.Message.{Message}
 use Rattle.samoa_model.specs.declared.setup.Setup.{Setup}
-use Rattle.samoa_laws.specs.order.Lists.{In}
+use Rattle.samoa_laws.specs.lists.Lists.{In}
 use Rattle.samoa_laws.specs.order.Boxes.{BoxStep, IsStep, left_by, WasCast}
 use Rattle.samoa_laws.specs.order.Abcast.{abcast_opening, IsAbcastBox, WasHeard}
 use Rattle.samoa_laws.specs.order.Seqcast.{IsSeqcastBox}

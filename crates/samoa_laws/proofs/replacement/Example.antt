@@ -8,10 +8,11 @@ use Rattle.samoa_model.specs.declared.handler.Moment.TheVariants.{Begin, Resume}
 use Rattle.samoa_model.specs.declared.handler.Reply.{Reply}
 use Rattle.samoa_model.specs.declared.setup.Setup.{Setup}
 use Rattle.samoa_serial.specs.declared.message.Message.{Message}
-use Rattle.samoa_laws.specs.replacement.Lists.{Comparable, firsts, unknown}
+use Rattle.samoa_laws.specs.lists.Lists.{Comparable}
+use Rattle.samoa_laws.specs.lists.Messages.{first_places}
 use Rattle.samoa_serial.specs.Lists.{In}
 use Rattle.samoa_serial.specs.ReplTable.{repl_step}
-use Rattle.samoa_laws.specs.replacement.History.{Step, left_by, MayCome, Follows, IsHistory, GoesOn, begun, marks, stream, asked, same_message}
+use Rattle.samoa_laws.specs.replacement.History.{Step, left_by, MayCome, Follows, IsHistory, GoesOn, begun, marks, stream, asked}
 use Rattle.samoa_laws.specs.replacement.Trace.{Item, box_of, ResumesFrom, awaited, ComesAtOnce, IsTrace}
 use Rattle.std.proofs.lemmas.Bool.{false≢true}
 use Rattle.samoa_laws.specs.replacement.Group.{Up, messages_of, called_by, IsGroup, IsOrdered}
@@ -178,7 +179,7 @@ all_fine false = ((lit≤ tt, refl), (zero_fine first refl, (zero_fine second re
 
 -- the first places of what protocol 1 called up, where a, and of what protocol 0 did, where z
 abbrev firsts_at : Bool → Bool → Bool → List Message
-firsts_at a z b = firsts same_message unknown (messages_of (filter (λ (c : Up). if c.by == 1 then a else z) (ups_at b)))
+firsts_at a z b = first_places (messages_of (filter (λ (c : Up). if c.by == 1 then a else z) (ups_at b)))
 
 not_both : (p : ℕ) → eqb 1 p ≡ true → eqb 0 p ≡ true → ⊥
 not_both p e f = grind (arith, nat_tests)
@@ -206,11 +207,11 @@ ordered = record {
     began true = refl
     began false = refl
 
-    tested : (p : ℕ) (b : Bool) → firsts_at (eqb 1 p) (eqb 0 p) b ≡ firsts same_message unknown (called_by p (ups_at b))
+    tested : (p : ℕ) (b : Bool) → firsts_at (eqb 1 p) (eqb 0 p) b ≡ first_places (called_by p (ups_at b))
     tested p true = refl
     tested p false = refl
 
-    order : (p : ℕ) (b d : Bool) → Comparable (firsts same_message unknown (called_by p (ups_at b))) (firsts same_message unknown (called_by p (ups_at d)))
+    order : (p : ℕ) (b d : Bool) → Comparable (first_places (called_by p (ups_at b))) (first_places (called_by p (ups_at d)))
     order p b d =
         let P : List Message → List Message → Type 0 = λ l m. Comparable l m in
         subst₂ P (tested p b) (tested p d) (all_order p (eqb 1 p) (eqb 0 p) b d refl refl)

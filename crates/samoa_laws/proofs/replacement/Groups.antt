@@ -4,12 +4,15 @@ use Rattle.std.specs.List.{list_any}
 use Rattle.std.proofs.lemmas.Bool.{cases_order}
 use Rattle.samoa_model.specs.declared.setup.Setup.{Setup}
 use Rattle.samoa_serial.specs.declared.message.Message.{Message}
-use Rattle.samoa_laws.specs.replacement.Lists.{IsPrefix, Comparable, firsts, unknown, EndsOnlyIn}
+use Rattle.samoa_laws.proofs.lists.Messages.{same_message_equal}
+use Rattle.samoa_laws.proofs.lists.Lists.{begins_after, comparable_after, comparable_filter, comparable_map, ends_equal, filter_firsts, none_begins}
+use Rattle.samoa_laws.specs.lists.Lists.{Begins, Comparable, EndsOnlyIn, unknown}
+use Rattle.samoa_laws.specs.lists.Messages.{first_places, same_message}
+use Rattle.samoa_serial.proofs.ListLaws.{begins-refl, begins-trans}
 use Rattle.samoa_serial.specs.Lists.{In}
-use Rattle.samoa_laws.specs.replacement.History.{Step, left_by, given, GoesOn, begun, marks, stream, of_epoch, below, same_message, is_turn, not_turn, said, said_of}
+use Rattle.samoa_laws.specs.replacement.History.{Step, left_by, given, GoesOn, begun, marks, stream, of_epoch, below, is_turn, not_turn, said, said_of}
 use Rattle.samoa_laws.specs.replacement.Trace.{Item, box_of, awaited, IsTrace}
 use Rattle.samoa_laws.specs.replacement.Group.{Up, messages_of, called_by, IsGroup, IsOrdered}
-use Rattle.samoa_laws.proofs.replacement.Lists.{prefix_same, prefix_then, prefix_after, comparable_filter, comparable_map, comparable_after, filter_firsts, ends_equal, none_prefix}
 use Rattle.samoa_laws.proofs.replacement.Inv.{all_of, below_zero}
 use Rattle.samoa_laws.proofs.replacement.Rows.{Holds}
 use Rattle.samoa_laws.proofs.replacement.Traces.{trace_history, trace_goes_on, trace_rests}
@@ -36,11 +39,7 @@ of_one e p (c ∷ ups) one = go (eqb c.message.epoch e) (eqb c.by p) refl refl (
     go false false f g ih = ap (λ t. cond t (c.message ∷ of_epoch e (messages_of ups)) (of_epoch e (messages_of ups))) f ∙ ih
 
 same_epochs : (e : ℕ) (x y : Message) → same_message x y ≡ true → eqb x.epoch e ≡ eqb y.epoch e
-same_epochs e x y t = ap (λ n. eqb n e) (eqb-true x.epoch y.epoch (go (eqb x.epoch y.epoch) ((x.origin == y.origin) && (x.number == y.number)) (x.kind == y.kind) (x.value == y.value) t))
-  where
-    go : (a b c d : Bool) → (((a && b) && c) && d) ≡ true → a ≡ true
-    go true b c d h = refl
-    go false b c d h = absurd (cc)
+same_epochs e x y t = ap (λ (m : Message). eqb m.epoch e) (same_message_equal x y t)
 
 module _ (count : ℕ) (setup : ℕ → Setup) (steps : ℕ → List Step) (ups : ℕ → List Up) (protocol : ℕ → List Message → ℕ)
     (group : IsGroup count setup steps) (ordered : IsOrdered steps ups protocol) where
@@ -78,17 +77,17 @@ module _ (count : ℕ) (setup : ℕ → Setup) (steps : ℕ → List Step) (ups 
       epochs_alike (setup v) (setup u) (steps v) (steps u) (group.history v) (group.history u) (group.short v) (group.short u) e a b (agree v u a b)
       (subst₂ P (first v (protocol e (below e (marks_of v))) (begun_by e agree v a))
       (first u (protocol e (below e (marks_of v))) (begun_by e agree u b ∙ ap (λ z. of_epoch e (called_by (protocol e z) (ups u))) (sym (agree v u a b))))
-      (comparable_filter (λ (m : Message). m.epoch == e) (firsts same_message unknown (called_by (protocol e (below e (marks_of v))) (ups v)))
-      (firsts same_message unknown (called_by (protocol e (below e (marks_of v))) (ups u))) (ordered.order (protocol e (below e (marks_of v))) v u)))
+      (comparable_filter (λ (m : Message). m.epoch == e) (first_places (called_by (protocol e (below e (marks_of v))) (ups v)))
+      (first_places (called_by (protocol e (below e (marks_of v))) (ups u))) (ordered.order (protocol e (below e (marks_of v))) v u)))
     where
       P : List Message → List Message → Type 0
       P l m = Comparable l m
 
       first : (w p : ℕ) → of_epoch e (begun (steps w)) ≡ of_epoch e (called_by p (ups w))
-          → of_epoch e (firsts same_message unknown (called_by p (ups w))) ≡ firsts same_message unknown (of_epoch e (begun (steps w)))
+          → of_epoch e (first_places (called_by p (ups w))) ≡ first_places (of_epoch e (begun (steps w)))
       first w p h =
           filter_firsts same_message (λ (m : Message). m.epoch == e) unknown (λ x y t. same_epochs e x y t) (called_by p (ups w))
-          ∙ ap (λ z. firsts same_message unknown z) (sym h)
+          ∙ ap (λ z. first_places z) (sym h)
 
   ends_at : (e v : ℕ) → e < epoch_of v → EndsOnlyIn (is_turn count) (of_epoch e (marks_of v))
   ends_at e v l =
@@ -105,23 +104,23 @@ module _ (count : ℕ) (setup : ℕ → Setup) (steps : ℕ → List Step) (ups 
       ∙ sym ((holds u).core.layers e)
 
   -- the marks below an epoch begin all marks
-  below_more : (v e j : ℕ) → IsPrefix (below e (marks_of v)) (below (e + j) (marks_of v))
-  below_more v e zero = let P : ℕ → Type 0 = λ n. IsPrefix (below e (marks_of v)) (below n (marks_of v)) in subst P (plus_none e) (prefix_same (below e (marks_of v)))
+  below_more : (v e j : ℕ) → Begins (below e (marks_of v)) (below (e + j) (marks_of v))
+  below_more v e zero = let P : ℕ → Type 0 = λ n. Begins (below e (marks_of v)) (below n (marks_of v)) in subst P (plus_none e) (begins-refl (below e (marks_of v)))
     where
       plus_none : (n : ℕ) → n ≡ n + 0
       plus_none n = omega arith
   below_more v e (suc j) =
-      let P : ℕ → Type 0 = λ n. IsPrefix (below e (marks_of v)) (below n (marks_of v)) in
+      let P : ℕ → Type 0 = λ n. Begins (below e (marks_of v)) (below n (marks_of v)) in
       subst P (plus_more e j)
-      (prefix_then (below e (marks_of v)) (below (e + j) (marks_of v)) (below (suc (e + j)) (marks_of v)) (below_more v e j)
+      (begins-trans (below e (marks_of v)) (below (e + j) (marks_of v)) (below (suc (e + j)) (marks_of v)) (below_more v e j)
       (record { rest = of_epoch (e + j) (marks_of v); is = (holds v).core.layers (e + j) }))
     where
       plus_more : (n k : ℕ) → suc (n + k) ≡ n + suc k
       plus_more n k = omega arith
 
-  below_all : (v e : ℕ) → IsPrefix (below e (marks_of v)) (marks_of v)
+  below_all : (v e : ℕ) → Begins (below e (marks_of v)) (marks_of v)
   below_all v e =
-      let P : List Message → Type 0 = λ z. IsPrefix (below e (marks_of v)) z in
+      let P : List Message → Type 0 = λ z. Begins (below e (marks_of v)) z in
       subst P ((holds v).core.above (e + suc (epoch_of v)) (beyond e (epoch_of v))).0 (below_more v e (suc (epoch_of v)))
     where
       beyond : (n k : ℕ) → k < n + suc k
@@ -146,13 +145,13 @@ module _ (count : ℕ) (setup : ℕ → Setup) (steps : ℕ → List Step) (ups 
       P l m = Comparable l m
 
   -- of one in an earlier epoch
-  earlier : (v u : ℕ) → epoch_of v < epoch_of u → IsPrefix (marks_of v) (marks_of u)
+  earlier : (v u : ℕ) → epoch_of v < epoch_of u → Begins (marks_of v) (marks_of u)
   earlier v u less =
-      prefix_then (marks_of v) (below (suc e) (marks_of u)) (marks_of u)
+      begins-trans (marks_of v) (below (suc e) (marks_of u)) (marks_of u)
       (subst₂ P (all_marks v)
       ((λ k. agree e v u (omega arith) (omega arith) k ++ of_epoch e (marks_of u)) ∙ sym ((holds u).core.layers e))
-      (prefix_after (below e (marks_of v)) (of_epoch e (marks_of v)) (of_epoch e (marks_of u))
-      (none_prefix (is_turn count) (of_epoch e (marks_of v)) (of_epoch e (marks_of u)) none (ends_at e u less)
+      (begins_after (below e (marks_of v)) (of_epoch e (marks_of v)) (of_epoch e (marks_of u))
+      (none_begins (is_turn count) (of_epoch e (marks_of v)) (of_epoch e (marks_of u)) none (ends_at e u less)
       (alike_at e (agree e) v u (omega arith) (omega arith)))))
       (below_all u (suc e))
     where
@@ -160,7 +159,7 @@ module _ (count : ℕ) (setup : ℕ → Setup) (steps : ℕ → List Step) (ups 
       e = epoch_of v
 
       P : List Message → List Message → Type 0
-      P l m = IsPrefix l m
+      P l m = Begins l m
 
       none : list_any (is_turn count) (of_epoch e (marks_of v)) ≡ false
       none =

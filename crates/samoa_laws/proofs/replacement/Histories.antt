@@ -1,5 +1,5 @@
 -- Every history of a box.
-use Rattle.std.proofs.Common.{ℕ, zero, suc, ◌-◌, ◌^◌, ◌<◌, ◌≤◌, ◌==◌, nat_lt, eqb, ltb, Bool, true, false, not, cond, ◌||◌, ◌&&◌, ◌≡◌, ◌⊎◌, inl, inr, List, [], ◌∷◌, ◌++◌, map, length, filter, option_to_list, Option, Some, None, refl, sym, ap, ◌∙◌, subst, subst₂, if◌then◌else◌, append_assoc, append-nil, map-id, arith, eqb-true, lt-ltb, ltb-true, le-ltb, true≢false}
+use Rattle.std.proofs.Common.{ℕ, zero, suc, ◌-◌, ◌^◌, ◌<◌, ◌≤◌, ◌==◌, nat_lt, eqb, eq-eqb, ltb, Bool, true, false, not, cond, ◌||◌, ◌&&◌, ◌≡◌, ◌⊎◌, inl, inr, List, [], ◌∷◌, ◌++◌, map, length, filter, option_to_list, Option, Some, None, refl, sym, ap, ◌∙◌, subst, subst₂, if◌then◌else◌, append_assoc, append-nil, map-id, arith, eqb-true, lt-ltb, ltb-true, le-ltb, true≢false}
 use Rattle.std.specs.List.{list_any}
 use Rattle.std.proofs.lemmas.Bool.{cases_order}
 use Rattle.std.proofs.lemmas.List.{map-append}
@@ -13,12 +13,15 @@ use Rattle.samoa_model.specs.declared.ids.ChangeId.{ChangeId}
 use Rattle.samoa_model.specs.declared.setup.Setup.{Setup}
 use Rattle.samoa_serial.specs.declared.message.Message.{Message}
 use Rattle.samoa_serial.specs.declared.keys.Pair.{Pair}
-use Rattle.samoa_laws.specs.replacement.Lists.{IsPrefix, Comparable, among, firsts, unknown, IsApart, EndsOnlyIn}
+use Rattle.samoa_laws.proofs.lists.Messages.{same_message_equal}
+use Rattle.samoa_laws.proofs.lists.Lists.{any_push, apart_filter, apart_map, apart_push, closed_among, comparable_begins, comparable_firsts, firsts_of_firsts}
+use Rattle.samoa_laws.specs.lists.Lists.{Begins, Comparable, EndsOnlyIn, IsApart, among, unknown}
+use Rattle.samoa_laws.specs.lists.Messages.{first_places, same_message}
+use Rattle.samoa_serial.proofs.ListLaws.{begins-append, begins-refl, begins-trans}
 use Rattle.samoa_serial.specs.State.{ReplState}
 use Rattle.samoa_serial.specs.Rows.{word, up, change_at_place, change, deliver}
 use Rattle.samoa_serial.specs.ReplTable.{first_of, is_change, repl_hand_on, repl_step}
-use Rattle.samoa_laws.specs.replacement.History.{Step, left_by, frame_of, given, MayCome, IsHistory, GoesOn, Ready, HandedOn, begun, begun_in, marks, marked_in, effects, words_in, stream, changes_in, asked, turns_of, asked_by, up_to, last_value, asked_at, of_epoch, below, same_pair, same_message, is_turn, fresh, not_turn, said, said_of, pending, pending_in, begin_alike}
-use Rattle.samoa_laws.proofs.replacement.Lists.{prefix_same, prefix_end, prefix_then, comparable_prefixes, comparable_firsts, closed_among, firsts_of_firsts, apart_push, apart_filter, apart_map, any_push}
+use Rattle.samoa_laws.specs.replacement.History.{Step, left_by, frame_of, given, MayCome, IsHistory, GoesOn, Ready, HandedOn, begun, begun_in, marks, marked_in, effects, words_in, stream, changes_in, asked, turns_of, asked_by, up_to, last_value, asked_at, of_epoch, below, same_pair, is_turn, fresh, not_turn, said, said_of, pending, pending_in, begin_alike}
 use Rattle.samoa_laws.proofs.replacement.Sets.{same_trans}
 use Rattle.samoa_laws.proofs.replacement.Inv.{Inv, opening, first_epoch, all_of, below_zero}
 use Rattle.samoa_laws.proofs.replacement.Rows.{up_next, step_gives, Holds, Marks, frame_number, step_keeps}
@@ -126,14 +129,14 @@ mark_follows setup s earlier h frame reply m lt =
 -- ---- within one epoch
 -- what is marked of an epoch, up to the present one
 pub marks_begun : (setup : Setup) (steps : List Step) → IsHistory setup steps → length steps < 2 ^ 64 → (e : ℕ) → e ≤ (left_by steps).epoch
-    → IsPrefix (of_epoch e (marks steps)) (fresh (below e (marks steps)) (of_epoch e (begun steps)))
+    → Begins (of_epoch e (marks steps)) (fresh (below e (marks steps)) (of_epoch e (begun steps)))
 marks_begun setup steps h l e le = at (cases_order e (left_by steps).epoch)
   where
     inv : Holds setup (left_by steps) (begun steps) (marks steps)
     inv = (stands setup steps h l).holds
 
     at : (e ≡ (left_by steps).epoch) ⊎ ((e < (left_by steps).epoch) ⊎ ((left_by steps).epoch < e))
-        → IsPrefix (of_epoch e (marks steps)) (fresh (below e (marks steps)) (of_epoch e (begun steps)))
+        → Begins (of_epoch e (marks steps)) (fresh (below e (marks steps)) (of_epoch e (begun steps)))
     at (inl q) = record { rest = fresh (marks steps) (of_epoch e (left_by steps).early); is = inv.core.ahead e (omega arith) }
     at (inr (inl q)) = (inv.core.left e q).0
     at (inr (inr q)) = absurd (omega arith)
@@ -147,38 +150,33 @@ pub none_is_turn : (setup : Setup) (steps : List Step) → IsHistory setup steps
 none_is_turn setup steps h l = (stands setup steps h l).holds.present
 
 message_pair : (x y : Message) → same_message x y ≡ true → same_pair x y ≡ true
-message_pair x y e = go (x.epoch == y.epoch) (same_pair x y) (x.kind == y.kind) (x.value == y.value) e
-  where
-    go : (a b c d : Bool) → (((a && b) && c) && d) ≡ true → b ≡ true
-    go true true c d h = refl
-    go true false c d h = absurd (cc)
-    go false b c d h = absurd (cc)
+message_pair x y e = ap (λ (m : Message). same_pair x m) (sym (same_message_equal x y e)) ∙ rw (eq-eqb x.origin x.origin refl, eq-eqb x.number x.number refl) refl
 
 -- what begins with comparable first places is marked alike
 pub alike_marks : (before came other : List Message)
-    → Comparable (firsts same_message unknown came) (firsts same_message unknown other)
+    → Comparable (first_places came) (first_places other)
     → Comparable (fresh before came) (fresh before other)
 alike_marks before came other h =
     let P : List Message → List Message → Type 0 = λ l m. Comparable l m in
     subst₂ P (whole came) (whole other)
     (comparable_firsts same_pair same_trans (among same_pair before) (closed_among same_pair same_trans before)
-    (firsts same_message unknown came) (firsts same_message unknown other) h)
+    (first_places came) (first_places other) h)
   where
-    whole : (l : List Message) → fresh before (firsts same_message unknown l) ≡ fresh before l
+    whole : (l : List Message) → fresh before (first_places l) ≡ fresh before l
     whole l = firsts_of_firsts same_message same_pair same_trans message_pair (among same_pair before) unknown
         (closed_among same_pair same_trans before) (λ y e. absurd (cc)) l
 
 pub epochs_alike : (setup other : Setup) (steps others : List Step) → IsHistory setup steps → IsHistory other others
     → length steps < 2 ^ 64 → length others < 2 ^ 64
     → (e : ℕ) → e ≤ (left_by steps).epoch → e ≤ (left_by others).epoch → below e (marks steps) ≡ below e (marks others)
-    → Comparable (firsts same_message unknown (of_epoch e (begun steps))) (firsts same_message unknown (of_epoch e (begun others)))
+    → Comparable (first_places (of_epoch e (begun steps))) (first_places (of_epoch e (begun others)))
     → Comparable (of_epoch e (marks steps)) (of_epoch e (marks others))
 epochs_alike setup other steps others h k l m e a b same begin =
-    comparable_prefixes (fresh (below e (marks steps)) (of_epoch e (begun steps))) (fresh (below e (marks steps)) (of_epoch e (begun others)))
+    comparable_begins (fresh (below e (marks steps)) (of_epoch e (begun steps))) (fresh (below e (marks steps)) (of_epoch e (begun others)))
     (of_epoch e (marks steps)) (of_epoch e (marks others))
     (alike_marks (below e (marks steps)) (of_epoch e (begun steps)) (of_epoch e (begun others)) begin)
     (marks_begun setup steps h l e a)
-    (let P : List Message → Type 0 = λ z. IsPrefix (of_epoch e (marks others)) (fresh z (of_epoch e (begun others))) in
+    (let P : List Message → Type 0 = λ z. Begins (of_epoch e (marks others)) (fresh z (of_epoch e (begun others))) in
     subst P (sym same) (marks_begun other others k m e b))
 
 -- ---- the stream
@@ -497,8 +495,8 @@ settled setup (s ∷ later) earlier h l e le =
         at x o a b = omega arith
 
 -- a stream only grows
-pub stream_grows : (later earlier : List Step) → IsPrefix (stream earlier) (stream (later ++ earlier))
-stream_grows [] earlier = prefix_same (stream earlier)
+pub stream_grows : (later earlier : List Step) → Begins (stream earlier) (stream (later ++ earlier))
+stream_grows [] earlier = begins-refl (stream earlier)
 stream_grows (s ∷ later) earlier =
-    prefix_then (stream earlier) (stream (later ++ earlier)) (stream (s ∷ later ++ earlier)) (stream_grows later earlier)
-    (prefix_end (stream (later ++ earlier)) (if s.effective then words_in s.outcome else []))
+    begins-trans (stream earlier) (stream (later ++ earlier)) (stream (s ∷ later ++ earlier)) (stream_grows later earlier)
+    (begins-append (stream (later ++ earlier)) (if s.effective then words_in s.outcome else []))

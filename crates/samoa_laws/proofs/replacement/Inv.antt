@@ -6,11 +6,12 @@ use Rattle.std.proofs.lemmas.Bool.Decides.{nat_tests}
 use Rattle.std.proofs.lemmas.List.Elements.{filter-append}
 use Rattle.samoa_serial.specs.declared.message.Message.{Message}
 use Rattle.samoa_serial.specs.declared.keys.Pair.{Pair}
-use Rattle.samoa_laws.specs.replacement.Lists.{IsPrefix, among, IsApart, EndsOnlyIn}
+use Rattle.samoa_laws.proofs.lists.Lists.{apart_push, begins_firsts, closed_among, filter_push_in, filter_push_out, firsts_filtered, push_both, take_one, take_other}
+use Rattle.samoa_laws.specs.lists.Lists.{Begins, EndsOnlyIn, IsApart, among}
+use Rattle.samoa_serial.proofs.ListLaws.{begins-trans}
 use Rattle.samoa_serial.specs.Rows.{has_pair, with_pair}
 use Rattle.samoa_serial.specs.ReplTable.{pair_of, first_of, without_first}
 use Rattle.samoa_laws.specs.replacement.History.{of_epoch, below, same_pair, is_turn, fresh}
-use Rattle.samoa_laws.proofs.replacement.Lists.{prefix_then, prefix_firsts, closed_among, firsts_filtered, apart_push, push_both, take_one, take_other, filter_push_in, filter_push_out}
 use Rattle.samoa_laws.proofs.replacement.Sets.{same_trans, known_more}
 
 -- a box in an epoch, with what it delivered and what came early, of which so many messages began and were marked
@@ -20,7 +21,7 @@ pub record Core (count epoch : ℕ) (delivered : List Pair) (early begun marks :
   pub layers : (e : ℕ) → below (suc e) marks ≡ below e marks ++ of_epoch e marks
   pub above : (e : ℕ) → epoch < e → (below e marks ≡ marks) × (of_epoch e marks ≡ [])
   pub ahead : (e : ℕ) → epoch ≤ e → fresh (below e marks) (of_epoch e begun) ≡ of_epoch e marks ++ fresh marks (of_epoch e early)
-  pub left : (e : ℕ) → e < epoch → IsPrefix (of_epoch e marks) (fresh (below e marks) (of_epoch e begun)) × EndsOnlyIn (is_turn count) (of_epoch e marks)
+  pub left : (e : ℕ) → e < epoch → Begins (of_epoch e marks) (fresh (below e marks) (of_epoch e begun)) × EndsOnlyIn (is_turn count) (of_epoch e marks)
 
 pub record Inv (count epoch : ℕ) (delivered : List Pair) (early begun marks : List Message) : Type 0 where
   pub core : Core count epoch delivered early begun marks
@@ -72,14 +73,14 @@ begins count epoch delivered early begun marks m c = record {
   above = c.above;
   ahead = λ e l. at e l (cases_order m.epoch e);
   left = λ e l. (
-    prefix_then (of_epoch e marks) (fresh (below e marks) (of_epoch e begun)) (fresh (below e marks) (of_epoch e (begun ++ m ∷ [])))
+    begins-trans (of_epoch e marks) (fresh (below e marks) (of_epoch e begun)) (fresh (below e marks) (of_epoch e (begun ++ m ∷ [])))
         (c.left e l).0 (longer e),
     (c.left e l).1,
   );
 }
   where
-    longer : (e : ℕ) → IsPrefix (fresh (below e marks) (of_epoch e begun)) (fresh (below e marks) (of_epoch e (begun ++ m ∷ [])))
-    longer e = prefix_firsts same_pair same_trans (among same_pair (below e marks)) (closed_among same_pair same_trans (below e marks))
+    longer : (e : ℕ) → Begins (fresh (below e marks) (of_epoch e begun)) (fresh (below e marks) (of_epoch e (begun ++ m ∷ [])))
+    longer e = begins_firsts same_pair same_trans (among same_pair (below e marks)) (closed_among same_pair same_trans (below e marks))
         (of_epoch e begun) (of_epoch e (begun ++ m ∷ []))
         (record { rest = of_epoch e (m ∷ []); is = filter-append (λ (x : Message). x.epoch == e) begun (m ∷ []) })
 
@@ -208,12 +209,12 @@ takes count epoch delivered early begun marks x first new c = record {
         below_push_out (suc e) marks x (omega (arith, here)) ∙ c.layers e
         ∙ (λ k. sym (below_push_out e marks x (omega (arith, here))) k ++ sym (of_push_out e marks x (λ q. omega (arith, here))) k)
 
-    old : (e : ℕ) → e < epoch → IsPrefix (of_epoch e more) (fresh (below e more) (of_epoch e begun)) × EndsOnlyIn (is_turn count) (of_epoch e more)
+    old : (e : ℕ) → e < epoch → Begins (of_epoch e more) (fresh (below e more) (of_epoch e begun)) × EndsOnlyIn (is_turn count) (of_epoch e more)
     old e l =
         let of : of_epoch e more ≡ of_epoch e marks = of_push_out e marks x (λ q. omega (arith, here)) in
         let under : below e more ≡ below e marks = below_push_out e marks x (omega (arith, here)) in (
-          (let P : List Message → Type 0 = λ z. IsPrefix z (fresh (below e more) (of_epoch e begun)) in
-              subst P (sym of) (let Q : List Message → Type 0 = λ z. IsPrefix (of_epoch e marks) (fresh z (of_epoch e begun)) in subst Q (sym under) (c.left e l).0)),
+          (let P : List Message → Type 0 = λ z. Begins z (fresh (below e more) (of_epoch e begun)) in
+              subst P (sym of) (let Q : List Message → Type 0 = λ z. Begins (of_epoch e marks) (fresh z (of_epoch e begun)) in subst Q (sym under) (c.left e l).0)),
           (let P : List Message → Type 0 = λ z. EndsOnlyIn (is_turn count) z in subst P (sym of) (c.left e l).1),
         )
 
@@ -264,13 +265,13 @@ ends count epoch delivered early begun marks last c = record {
   present = ap (λ z. list_any (is_turn count) z) (c.above (suc epoch) (omega arith)).1;
 }
   where
-    here : IsPrefix (of_epoch epoch marks) (fresh (below epoch marks) (of_epoch epoch begun)) × EndsOnlyIn (is_turn count) (of_epoch epoch marks)
+    here : Begins (of_epoch epoch marks) (fresh (below epoch marks) (of_epoch epoch begun)) × EndsOnlyIn (is_turn count) (of_epoch epoch marks)
     here = (record { rest = fresh marks (of_epoch epoch early); is = c.ahead epoch (omega arith) }, last)
 
     at : (e : ℕ) → e < suc epoch → (e ≡ epoch) ⊎ ((e < epoch) ⊎ (epoch < e))
-        → IsPrefix (of_epoch e marks) (fresh (below e marks) (of_epoch e begun)) × EndsOnlyIn (is_turn count) (of_epoch e marks)
+        → Begins (of_epoch e marks) (fresh (below e marks) (of_epoch e begun)) × EndsOnlyIn (is_turn count) (of_epoch e marks)
     at e l (inl h) =
-        let P : ℕ → Type 0 = λ n. IsPrefix (of_epoch n marks) (fresh (below n marks) (of_epoch n begun)) × EndsOnlyIn (is_turn count) (of_epoch n marks) in
+        let P : ℕ → Type 0 = λ n. Begins (of_epoch n marks) (fresh (below n marks) (of_epoch n begun)) × EndsOnlyIn (is_turn count) (of_epoch n marks) in
         subst P (sym h) here
     at e l (inr (inl h)) = c.left e h
     at e l (inr (inr h)) = absurd (omega arith)

@@ -14,7 +14,7 @@ use Rattle.samoa_serial.specs.State.{ReplState}
 use Rattle.samoa_serial.specs.Rows.{word, up, done, call, message_at, has_pair}
 use Rattle.samoa_serial.specs.ReplTable.{pair_of, first_of, is_to_come, is_change, repl_hand_on, repl_drain, repl_mark, repl_recast, repl_go_on, repl_cast, repl_deliver, repl_switched, repl_marked, repl_deliver_on, repl_step}
 use Rattle.samoa_laws.specs.replacement.History.{frame_of, Ready, begun_in, marked_in, of_epoch, is_turn}
-use Rattle.samoa_laws.proofs.replacement.Lists.{filter_push_in, any_push}
+use Rattle.samoa_laws.proofs.lists.Lists.{any_push, filter_push_in}
 use Rattle.samoa_laws.proofs.replacement.Inv.{Core, Inv, begins, cleans, takes, ends, first_epoch}
 
 -- ---- what a row hands on

@@ -6,8 +6,8 @@ use Rattle.std.proofs.lemmas.Bool.Decides.{nat_tests}
 use Rattle.samoa_serial.specs.contracts.keys.PairOrd.TheImpl.{ghosts as paired}
 use Rattle.samoa_serial.specs.declared.message.Message.{Message}
 use Rattle.samoa_serial.specs.declared.keys.Pair.{Pair}
-use Rattle.samoa_laws.specs.replacement.Lists.{among}
-use Rattle.samoa_laws.proofs.replacement.Lists.{among-append}
+use Rattle.samoa_laws.proofs.lists.Lists.{among-append}
+use Rattle.samoa_laws.specs.lists.Lists.{among}
 use Rattle.samoa_serial.specs.Rows.{has_pair, with_pair}
 use Rattle.samoa_serial.specs.ReplTable.{pair_of}
 use Rattle.samoa_laws.specs.replacement.History.{same_pair}

@@ -18,9 +18,8 @@ use Rattle.samoa_model.specs.declared.handler.Outcome.{Outcome}
 use Rattle.samoa_serial.specs.State.{State}
 use Rattle.samoa_serial.specs.declared.message.Message.{Message}
 use Rattle.samoa_laws.specs.replacement.Group.{Up, called_by}
-use Rattle.samoa_laws.specs.replacement.History.{same_message}
-use Rattle.samoa_laws.specs.replacement.Lists as list
-use Rattle.samoa_laws.specs.replacement.Lists.{Comparable, firsts, unknown}
+use Rattle.samoa_laws.specs.lists.Lists.{Comparable}
+use Rattle.samoa_laws.specs.lists.Messages.{first_places}
 use Rattle.samoa_laws.specs.stream.Ordered.{AreSubmitted, KeepsOrder, WasSubmitted, caller, up_in, ups_at}
 use Rattle.samoa_laws.specs.stream.Streams.{stream_at}
 use Rattle.samoa_laws.proofs.stream.Order.{comparable}
@@ -302,10 +301,10 @@ keeps : KeepsOrder script exts
 keeps p broadcast v u = go (eqb_tells 0 v) (eqb_tells 0 u)
   where
     listed : ℕ → List Message
-    listed w = firsts same_message unknown (called_by p (ups_at w (trace script exts)))
+    listed w = first_places (called_by p (ups_at w (trace script exts)))
 
     none : (w : ℕ) → 0 ≢ w → listed w ≡ []
-    none w ne = ap (λ (l : List Up). firsts same_message unknown (called_by p l)) (elsewhere w ne)
+    none w ne = ap (λ (l : List Up). first_places (called_by p l)) (elsewhere w ne)
 
     go : ((0 == v) ≡ true) × (0 ≡ v) ⊎ ((0 == v) ≡ false) × (0 ≢ v) → ((0 == u) ≡ true) × (0 ≡ u) ⊎ ((0 == u) ≡ false) × (0 ≢ u) → Comparable (listed v) (listed u)
     go (inr other) which = subst (λ (l : List Message). Comparable l (listed u)) (sym (none v other.1)) (inl (record { rest = listed u; is = refl }))

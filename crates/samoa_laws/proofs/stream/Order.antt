@@ -17,15 +17,15 @@ use Rattle.samoa_laws.proofs.trace.Accepted.{group_length}
 use Rattle.samoa_laws.proofs.trace.Points.{point, trace-is_trace}
 use Rattle.samoa_laws.proofs.trace.Steps.{Before, before}
 use Rattle.samoa_laws.proofs.trace.Worlds.{event_for}
-use Rattle.samoa_laws.specs.replacement.Lists as list
+use Rattle.samoa_laws.proofs.lists.Lists.{comparable_begins}
+use Rattle.samoa_laws.specs.lists.Lists.{Begins, Comparable}
+use Rattle.samoa_laws.specs.lists.Messages.{first_places}
 use Rattle.samoa_serial.specs.Lists.{In}
-use Rattle.samoa_laws.specs.replacement.Lists.{Comparable, IsPrefix, firsts, unknown}
 use Rattle.samoa_laws.specs.replacement.Group.{IsGroup as AreBoxes, IsOrdered, Up, called_by, messages_of}
-use Rattle.samoa_laws.specs.replacement.History.{IsHistory, Step, asked, asked_at, begun, begun_in, below, last_value, left_by, marks, same_message, stream, up_to}
+use Rattle.samoa_laws.specs.replacement.History.{IsHistory, Step, asked, asked_at, begun, begun_in, below, last_value, left_by, marks, stream, up_to}
 use Rattle.samoa_laws.proofs.replacement.Casts.{got_of_map, got_up_to}
 use Rattle.samoa_laws.proofs.replacement.Groups.{streams_comparable}
 use Rattle.samoa_laws.proofs.replacement.Histories.{asked_each, settled}
-use Rattle.samoa_laws.proofs.replacement.Lists.{comparable_prefixes}
 use Rattle.samoa_laws.specs.stream.Ordered.{IsBroadcast, AreSubmitted, KeepsOrder, WasSubmitted, broadcast_of, caller, in_place, protocol, up_in, ups_at}
 use Rattle.samoa_laws.specs.stream.Streams.{repl_setup, is_repl, repl_at, repl_step_of, stream_at}
 use Rattle.samoa_laws.proofs.stream.Askings.{pair}
@@ -56,7 +56,7 @@ ups_begun v (x ∷ past) = go (is_repl v x) (ups_begun v past)
     go false ih = ap messages_of (append-nil (ups_at v past)) ∙ ih
 
 -- ---- what the rebindings put in place is what the marks decide
-got_in_prefix : {A : Type 0} (l m : List A) (i : ℕ) (x : A) → IsPrefix l m → slice_get l i ≡ Some x → slice_get m i ≡ Some x
+got_in_prefix : {A : Type 0} (l m : List A) (i : ℕ) (x : A) → Begins l m → slice_get l i ≡ Some x → slice_get m i ≡ Some x
 got_in_prefix {A} l m i x p e = ap (λ (k : List A). slice_get k i) p.is ∙ go l i e
   where
     go : (k : List A) (j : ℕ) → slice_get k j ≡ Some x → slice_get (k ++ p.rest) j ≡ Some x
@@ -221,7 +221,7 @@ none_by p (c ∷ ups) none = go (eqb_tells c.by p) (none_by p ups (λ d there. n
     go (inr other) ih = ap (λ (b : Bool). messages_of (if b then c ∷ filter (λ (d : Up). d.by == p) ups else filter (λ (d : Up). d.by == p) ups)) other.0 ∙ ih
 
 in_order : (script : Script) (exts : List Ext) → KeepsOrder script exts → AreSubmitted script exts → (p v u : ℕ)
-    → Comparable (firsts same_message unknown (called_by p (ups_at v (trace script exts)))) (firsts same_message unknown (called_by p (ups_at u (trace script exts))))
+    → Comparable (first_places (called_by p (ups_at v (trace script exts)))) (first_places (called_by p (ups_at u (trace script exts))))
 in_order script exts keeps submitted p v u = go (eqb_tells p 4) (eqb_tells p 5)
   where
     none : p ≢ 4 → p ≢ 5 → (w : ℕ) → called_by p (ups_at w (trace script exts)) ≡ []
@@ -232,12 +232,12 @@ in_order script exts keeps submitted p v u = go (eqb_tells p 4) (eqb_tells p 5)
         other q is (inr e) = five (sym is ∙ e)
 
     go : ((p == 4) ≡ true) × (p ≡ 4) ⊎ ((p == 4) ≡ false) × (p ≢ 4) → ((p == 5) ≡ true) × (p ≡ 5) ⊎ ((p == 5) ≡ false) × (p ≢ 5)
-        → Comparable (firsts same_message unknown (called_by p (ups_at v (trace script exts)))) (firsts same_message unknown (called_by p (ups_at u (trace script exts))))
+        → Comparable (first_places (called_by p (ups_at v (trace script exts)))) (first_places (called_by p (ups_at u (trace script exts))))
     go (inl four) five = keeps p (inl four.1) v u
     go (inr four) (inl five) = keeps p (inr five.1) v u
     go (inr four) (inr five) =
-        subst (λ (l : List Message). Comparable (firsts same_message unknown l) (firsts same_message unknown (called_by p (ups_at u (trace script exts))))) (sym (none four.1 five.1 v))
-        (inl (record { rest = firsts same_message unknown (called_by p (ups_at u (trace script exts))); is = refl }))
+        subst (λ (l : List Message). Comparable (first_places l) (first_places (called_by p (ups_at u (trace script exts))))) (sym (none four.1 five.1 v))
+        (inl (record { rest = first_places (called_by p (ups_at u (trace script exts))); is = refl }))
 
 pub ordered : (script : Script) (exts : List Ext) → IsGroupHistory script exts → KeepsOrder script exts → AreSubmitted script exts
     → IsOrdered (λ v. repl_at v (trace script exts)) (λ v. ups_at v (trace script exts)) protocol
@@ -282,6 +282,6 @@ comparable script exts history keeps submitted v u =
 pub comparable_then : (script : Script) (exts : List Ext) → IsGroupHistory script exts → KeepsOrder script exts → AreSubmitted script exts
     → (now more past later : List Ext) → exts ≡ now ++ more → exts ≡ past ++ later → (v u : ℕ) → Comparable (stream_at script now v) (stream_at script past u)
 comparable_then script exts history keeps submitted now more past later is also v u =
-    comparable_prefixes (stream_at script exts v) (stream_at script exts u) (stream_at script now v) (stream_at script past u) (comparable script exts history keeps submitted v u)
-    (subst (λ (xs : List Ext). IsPrefix (stream_at script now v) (stream_at script xs v)) (sym is) (stream_extends script now more v))
-    (subst (λ (xs : List Ext). IsPrefix (stream_at script past u) (stream_at script xs u)) (sym also) (stream_extends script past later u))
+    comparable_begins (stream_at script exts v) (stream_at script exts u) (stream_at script now v) (stream_at script past u) (comparable script exts history keeps submitted v u)
+    (subst (λ (xs : List Ext). Begins (stream_at script now v) (stream_at script xs v)) (sym is) (stream_extends script now more v))
+    (subst (λ (xs : List Ext). Begins (stream_at script past u) (stream_at script xs u)) (sym also) (stream_extends script past later u))

@@ -7,6 +7,7 @@ use Rattle.samoa_model.specs.declared.record.Cause.{Cause as Reason}
 use Rattle.samoa_model.specs.declared.record.Ext.{Ext}
 use Rattle.samoa_model.specs.declared.script.Script.{Script}
 use Rattle.samoa_serial.specs.SerialRun.{serial}
+use Rattle.samoa_serial.proofs.RebindingLaws.{rebindings_at-append}
 use Rattle.samoa_laws.specs.trace.Trace.{HandlerStep, trace}
 use Rattle.samoa_laws.specs.trace.Causes.{FollowsIn, IsTrace}
 use Rattle.samoa_laws.specs.trace.Group.{Asking, IsGroupHistory, IsRebinding, asked_at, rebinding_of, rebindings_at}
@@ -18,7 +19,7 @@ use Rattle.samoa_laws.specs.stream.Streams.{is_repl, repl_at, repl_step_of}
 use Rattle.samoa_laws.proofs.stream.Askings.{asked_is, pair}
 use Rattle.samoa_laws.proofs.stream.Boxes.{is_here}
 use Rattle.samoa_laws.proofs.stream.Nesting.{called_on}
-use Rattle.samoa_laws.proofs.stream.Switches.{SwitchBegin, is_rebinding, rebindings-append, switch_begin, switch_count}
+use Rattle.samoa_laws.proofs.stream.Switches.{SwitchBegin, is_rebinding, switch_begin, switch_count}
 
 got_there : {A B : Type 0} (f : A → B) (l : List A) (x : A) (rest : List A) → slice_get (map f (l ++ x ∷ rest)) (length l) ≡ Some (f x)
 got_there f [] x rest = refl
@@ -28,7 +29,7 @@ got_there f (y ∷ l) x rest = got_there f l x rest
 rebindings_to : (v : ℕ) (before : List Ext) (ext : Ext) (change : ChangeId) → ext.node.0 ≡ v → ext.cause ≡ Reason.Change change
     → rebindings_at v (before ++ ext ∷ []) ≡ rebindings_at v before ++ record { change = change; arg = ext.args } ∷ []
 rebindings_to v before ext change here cause =
-    rebindings-append v before (ext ∷ [])
+    rebindings_at-append v before (ext ∷ [])
     ∙ ap (λ (rs : List Asking). rebindings_at v before ++ rs)
     (ap (λ (b : Bool). if b then rebinding_of ext.cause ext.args ++ [] else []) (eq-eqb ext.node.0 v here) ∙ ap (λ (c : Reason). rebinding_of c ext.args ++ []) cause)
 

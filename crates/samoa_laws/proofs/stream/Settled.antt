@@ -6,18 +6,19 @@ use Rattle.samoa_model.specs.declared.record.Cause.{Cause as Reason}
 use Rattle.samoa_model.specs.declared.record.Ext.{Ext}
 use Rattle.samoa_model.specs.declared.script.Script.{Script}
 use Rattle.samoa_serial.specs.SerialRun.{serial}
+use Rattle.samoa_serial.proofs.RebindingLaws.{rebindings_at-append}
 use Rattle.samoa_laws.specs.trace.Trace.{HandlerStep, trace}
 use Rattle.samoa_laws.specs.trace.Causes.{IsTrace}
 use Rattle.samoa_laws.specs.trace.Group.{Asking, IsFree, IsGroupHistory, IsRebinding, IsWire, asked_at, event, rebinding_of, rebindings_at}
 use Rattle.samoa_laws.proofs.trace.Entries.{Extends, trace-extends}
 use Rattle.samoa_laws.proofs.trace.Points.{point_at}
-use Rattle.samoa_laws.specs.replacement.Lists.{IsPrefix}
+use Rattle.samoa_laws.specs.lists.Lists.{Begins}
+use Rattle.samoa_serial.proofs.ListLaws.{begins-append, begins-refl, begins-trans}
 use Rattle.samoa_laws.specs.replacement.History.{Step, asked, stream}
 use Rattle.samoa_laws.proofs.replacement.Histories.{stream_grows}
-use Rattle.samoa_laws.proofs.replacement.Lists.{prefix_end, prefix_same, prefix_then}
 use Rattle.samoa_laws.specs.stream.Streams.{is_repl, repl_at, repl_step_of, stream_at}
 use Rattle.samoa_laws.proofs.stream.Askings.{asked_is, pair}
-use Rattle.samoa_laws.proofs.stream.Switches.{rebindings-append, rebindings_of}
+use Rattle.samoa_laws.proofs.stream.Switches.{rebindings_of}
 use Rattle.samoa_laws.proofs.stream.Words.{stream_is}
 
 pub repl_at-append : (v : ℕ) (more past : List HandlerStep) → repl_at v (more ++ past) ≡ repl_at v more ++ repl_at v past
@@ -29,31 +30,31 @@ repl_at-append v (x ∷ more) past = go (is_repl v x) (repl_at-append v more pas
     go true ih = ap (λ (l : List Step). repl_step_of x ∷ l) ih
     go false ih = ih
 
-asked_grows : (later earlier : List Step) → IsPrefix (asked earlier) (asked (later ++ earlier))
-asked_grows [] earlier = prefix_same (asked earlier)
-asked_grows (s ∷ later) earlier = prefix_then (asked earlier) (asked (later ++ earlier)) (asked (s ∷ later ++ earlier)) (asked_grows later earlier) (prefix_end (asked (later ++ earlier)) _)
+asked_grows : (later earlier : List Step) → Begins (asked earlier) (asked (later ++ earlier))
+asked_grows [] earlier = begins-refl (asked earlier)
+asked_grows (s ∷ later) earlier = begins-trans (asked earlier) (asked (later ++ earlier)) (asked (s ∷ later ++ earlier)) (asked_grows later earlier) (begins-append (asked (later ++ earlier)) _)
 
-asked_later : (v : ℕ) (more past : List HandlerStep) → IsPrefix (asked (repl_at v past)) (asked (repl_at v (more ++ past)))
-asked_later v more past = subst (λ (l : List Step). IsPrefix (asked (repl_at v past)) (asked l)) (sym (repl_at-append v more past)) (asked_grows (repl_at v more) (repl_at v past))
+asked_later : (v : ℕ) (more past : List HandlerStep) → Begins (asked (repl_at v past)) (asked (repl_at v (more ++ past)))
+asked_later v more past = subst (λ (l : List Step). Begins (asked (repl_at v past)) (asked l)) (sym (repl_at-append v more past)) (asked_grows (repl_at v more) (repl_at v past))
 
-asked_through : (script : Script) (v : ℕ) (before later : List Ext) → IsPrefix (asked (repl_at v (trace script before))) (asked (repl_at v (trace script (before ++ later))))
+asked_through : (script : Script) (v : ℕ) (before later : List Ext) → Begins (asked (repl_at v (trace script before))) (asked (repl_at v (trace script (before ++ later))))
 asked_through script v before later =
     let x : Extends script before later = trace-extends script before later in
-    subst (λ (zs : List HandlerStep). IsPrefix (asked (repl_at v (trace script before))) (asked (repl_at v zs))) (sym x.is) (asked_later v x.more (trace script before))
+    subst (λ (zs : List HandlerStep). Begins (asked (repl_at v (trace script before))) (asked (repl_at v zs))) (sym x.is) (asked_later v x.more (trace script before))
 
 -- a stream only grows
-pub stream_extends : (script : Script) (before later : List Ext) (v : ℕ) → IsPrefix (stream_at script before v) (stream_at script (before ++ later) v)
+pub stream_extends : (script : Script) (before later : List Ext) (v : ℕ) → Begins (stream_at script before v) (stream_at script (before ++ later) v)
 stream_extends script before later v =
     let x : Extends script before later = trace-extends script before later in
-    subst (λ (l : List (List ℕ)). IsPrefix l (stream_at script (before ++ later) v)) (sym (stream_is script before v))
-    (subst (λ (l : List (List ℕ)). IsPrefix (stream (repl_at v (trace script before))) l) (sym (stream_is script (before ++ later) v))
-    (subst (λ (zs : List HandlerStep). IsPrefix (stream (repl_at v (trace script before))) (stream (repl_at v zs))) (sym x.is)
-    (subst (λ (l : List Step). IsPrefix (stream (repl_at v (trace script before))) (stream l)) (sym (repl_at-append v x.more (trace script before)))
+    subst (λ (l : List (List ℕ)). Begins l (stream_at script (before ++ later) v)) (sym (stream_is script before v))
+    (subst (λ (l : List (List ℕ)). Begins (stream (repl_at v (trace script before))) l) (sym (stream_is script (before ++ later) v))
+    (subst (λ (zs : List HandlerStep). Begins (stream (repl_at v (trace script before))) (stream (repl_at v zs))) (sym x.is)
+    (subst (λ (l : List Step). Begins (stream (repl_at v (trace script before))) (stream l)) (sym (repl_at-append v x.more (trace script before)))
     (stream_grows (repl_at v x.more) (repl_at v (trace script before))))))
 
 -- the rebindings at a node begin what was asked for there
 abbrev AreAsked : Script → ℕ → List Ext → Type 0
-AreAsked script v before = IsPrefix (map pair (rebindings_at v before)) (asked (repl_at v (trace script before)))
+AreAsked script v before = Begins (map pair (rebindings_at v before)) (asked (repl_at v (trace script before)))
 
 asked_one : (script : Script) (exts : List Ext) → IsGroupHistory script exts → (v : ℕ) (before : List Ext) (ext : Ext) (later : List Ext) → exts ≡ before ++ ext ∷ later
     → AreAsked script v before → AreAsked script v (before ++ ext ∷ [])
@@ -64,15 +65,15 @@ asked_one script exts history v before ext later is h = go (eqb_tells ext.node.0
 
     same : rebindings_of v ext ≡ [] → AreAsked script v (before ++ ext ∷ [])
     same none =
-        subst (λ (rs : List Asking). IsPrefix (map pair rs) (asked (repl_at v (trace script (before ++ ext ∷ [])))))
-        (sym (rebindings-append v before (ext ∷ []) ∙ (ap (λ (rs : List Asking). rebindings_at v before ++ rs) none ∙ append-nil (rebindings_at v before))))
-        (prefix_then (map pair (rebindings_at v before)) (asked (repl_at v (trace script before))) (asked (repl_at v (trace script (before ++ ext ∷ [])))) h (asked_through script v before (ext ∷ [])))
+        subst (λ (rs : List Asking). Begins (map pair rs) (asked (repl_at v (trace script (before ++ ext ∷ [])))))
+        (sym (rebindings_at-append v before (ext ∷ []) ∙ (ap (λ (rs : List Asking). rebindings_at v before ++ rs) none ∙ append-nil (rebindings_at v before))))
+        (begins-trans (map pair (rebindings_at v before)) (asked (repl_at v (trace script before))) (asked (repl_at v (trace script (before ++ ext ∷ [])))) h (asked_through script v before (ext ∷ [])))
 
     new : ext.node.0 ≡ v → IsRebinding script before ext → AreAsked script v (before ++ ext ∷ [])
     new here r =
         let first : asked_at v before (serial script before).comps ≡ rebindings_at v (before ++ ext ∷ []) ++ r.rest =
         subst (λ (u : ℕ). asked_at u before (serial script before).comps ≡ rebindings_at u (before ++ ext ∷ []) ++ r.rest) here r.first in
-        prefix_then (map pair (rebindings_at v (before ++ ext ∷ []))) (asked (repl_at v (trace script before))) (asked (repl_at v (trace script (before ++ ext ∷ []))))
+        begins-trans (map pair (rebindings_at v (before ++ ext ∷ []))) (asked (repl_at v (trace script before))) (asked (repl_at v (trace script (before ++ ext ∷ []))))
         (record {
           rest = map pair r.rest;
           is = sym (asked_is script exts before history.group v t) ∙ (ap (map pair) first ∙ map-append pair (rebindings_at v (before ++ ext ∷ [])) r.rest);
@@ -105,8 +106,8 @@ asked_from script exts history v before (ext ∷ later) more is h =
     (asked_one script exts history v before ext (later ++ more) (is ∙ append_assoc before (ext ∷ later) more) h))
 
 pub are_asked : (script : Script) (exts : List Ext) → IsGroupHistory script exts → (v : ℕ) (before later : List Ext) → exts ≡ before ++ later
-    → IsPrefix (map pair (rebindings_at v before)) (asked (repl_at v (trace script exts)))
+    → Begins (map pair (rebindings_at v before)) (asked (repl_at v (trace script exts)))
 are_asked script exts history v before later is =
-    prefix_then (map pair (rebindings_at v before)) (asked (repl_at v (trace script before))) (asked (repl_at v (trace script exts)))
-    (asked_from script exts history v [] before later is (prefix_same []))
-    (subst (λ (xs : List Ext). IsPrefix (asked (repl_at v (trace script before))) (asked (repl_at v (trace script xs)))) (sym is) (asked_through script v before later))
+    begins-trans (map pair (rebindings_at v before)) (asked (repl_at v (trace script before))) (asked (repl_at v (trace script exts)))
+    (asked_from script exts history v [] before later is (begins-refl []))
+    (subst (λ (xs : List Ext). Begins (asked (repl_at v (trace script before))) (asked (repl_at v (trace script xs)))) (sym is) (asked_through script v before later))

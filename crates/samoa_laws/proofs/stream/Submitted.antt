@@ -16,6 +16,7 @@ use Rattle.samoa_serial.specs.Rows.{message_at, port_at, up, word}
 use Rattle.samoa_serial.specs.State.{ReplState}
 use Rattle.samoa_serial.specs.declared.message.Message.{Message}
 use Rattle.samoa_serial.specs.Lists.{Each, In}
+use Rattle.samoa_serial.proofs.RangeLaws.{each_begins}
 use Rattle.samoa_laws.specs.trace.Trace.{HandlerStep, micro_of}
 use Rattle.samoa_laws.specs.trace.Causes.{Cause, FollowsIn, IsTrace, Setting}
 use Rattle.samoa_laws.specs.trace.Group.{IsFree, IsGroupHistory, IsRebinding, IsWire, event, handler, rebindings_at}
@@ -119,10 +120,6 @@ pub record GivenBy (script : Script) (exts : List Ext) (past : List HandlerStep)
   pub twelve : event.0 ≡ 12
   pub bound : h ≡ handler (in_place 4 (rebindings_at step.node (part.follows.before ++ part.follows.ext ∷ []))) 0
 
-all_left : (P : Ext → Type 0) (xs ys : List Ext) → Each P (xs ++ ys) → Each P xs
-all_left P [] ys all = tt
-all_left P (x ∷ xs) ys all = (all.0, all_left P xs ys all.1)
-
 pub given_by : (script : Script) (exts : List Ext) → IsGroupHistory script exts → (past : List HandlerStep) (x : HandlerStep) → IsTrace script exts past → (f : FollowsIn script exts past x)
     → event_for x.call.handler ≡ 12 → (arg : List ℕ) → x.moment ≡ Moment.Begin 0 arg → GivenBy script exts past x.call.handler arg
 given_by script exts history past x t f at arg e = go f.follows.cause
@@ -180,7 +177,7 @@ given_by script exts history past x t f at arg e = go f.follows.cause
 
         known : Each (IsExtOf script) admitted
         known =
-            all_left (IsExtOf script) admitted b.follows.later
+            each_begins (IsExtOf script) admitted b.follows.later
             (subst (Each (IsExtOf script)) (b.follows.admitted ∙ sym (append_assoc b.follows.before (b.follows.ext ∷ []) b.follows.later)) history.known)
     go (Cause.Deferred y there calls) =
         let b : Before script exts past y = before script exts past y t there in

@@ -15,6 +15,7 @@ use Rattle.samoa_model.specs.declared.script.Decl.{Decl}
 use Rattle.samoa_model.specs.declared.script.Script.{Script}
 use Rattle.samoa_serial.specs.SerialRun.{rules_of}
 use Rattle.samoa_serial.specs.Lists.{Each, In}
+use Rattle.samoa_serial.proofs.RebindingLaws.{rebindings_at-append}
 use Rattle.samoa_laws.specs.trace.Trace.{HandlerStep, micro_of, trace}
 use Rattle.samoa_laws.specs.trace.Causes.{BeginsFirst, Calls, Comes, FollowsIn, IsFirst, IsNext, IsNextIn, IsTrace, Setting}
 use Rattle.samoa_laws.specs.trace.Group.{Asking, IsFree, IsGroup, IsGroupHistory, IsRebinding, IsWire, event, group_changes, handler, rebinding_of, rebindings_at}
@@ -144,16 +145,6 @@ quiet-switches v (x ∷ steps) past all = go (is_repl v x) all.0 ∙ quiet-switc
     go : (a : Bool) → (a && begins_switch x.moment) ≡ false → switches (if a then repl_step_of x ∷ repl_at v (steps ++ past) else repl_at v (steps ++ past)) ≡ n
     go true e = ap (λ (b : Bool). if b then suc n else n) e
     go false e = refl
-
-pub rebindings-append : (v : ℕ) (xs ys : List Ext) → rebindings_at v (xs ++ ys) ≡ rebindings_at v xs ++ rebindings_at v ys
-rebindings-append v [] ys = refl
-rebindings-append v (x ∷ xs) ys = go (x.node.0 == v) (rebindings-append v xs ys)
-  where
-    go : (b : Bool) → rebindings_at v (xs ++ ys) ≡ rebindings_at v xs ++ rebindings_at v ys
-        → (if b then rebinding_of x.cause x.args ++ rebindings_at v (xs ++ ys) else rebindings_at v (xs ++ ys))
-        ≡ (if b then rebinding_of x.cause x.args ++ rebindings_at v xs else rebindings_at v xs) ++ rebindings_at v ys
-    go true ih = ap (λ (rs : List Asking). rebinding_of x.cause x.args ++ rs) ih ∙ sym (append_assoc (rebinding_of x.cause x.args) (rebindings_at v xs) (rebindings_at v ys))
-    go false ih = ih
 
 -- a step of this computation, as one of those before it
 pub record Of (script : Script) (before : List Ext) (ext : Ext) (past : List HandlerStep) (x : HandlerStep) (f : List Ext) (g : Ext) : Type 0 where
@@ -372,7 +363,7 @@ counts_from script exts history v before (ext ∷ later) more is h =
     (counts_from script exts history v (before ++ ext ∷ []) later more (is ∙ ap (λ (xs : List Ext). xs ++ more) (sym (append_assoc before (ext ∷ []) later)))
     (count_one script exts history v before ext (later ++ more) (is ∙ append_assoc before (ext ∷ later) more)
     ∙ (ap (λ (n : ℕ). n + length (rebindings_of v ext)) h
-    ∙ (sym (length-append (rebindings_at v before) (rebindings_of v ext)) ∙ ap (λ (rs : List Asking). length rs) (sym (rebindings-append v before (ext ∷ [])))))))
+    ∙ (sym (length-append (rebindings_at v before) (rebindings_of v ext)) ∙ ap (λ (rs : List Asking). length rs) (sym (rebindings_at-append v before (ext ∷ [])))))))
 
 pub switch_count : (script : Script) (exts : List Ext) → IsGroupHistory script exts → (v : ℕ) (before later : List Ext) → exts ≡ before ++ later
     → switches (repl_at v (trace script before)) ≡ length (rebindings_at v before)
@@ -386,4 +377,4 @@ switch_count_in script exts history v past y t f =
     ∙ (count_in script exts history v f.before f.ext f.later f.admitted (y ∷ f.own) ((f.follows.comp, f.follows.node), f.own_steps)
     (subst (λ (zs : List HandlerStep). IsTrace script exts (y ∷ zs)) f.over t) (λ r e. absurd (cc))
     ∙ (ap (λ (n : ℕ). n + length (rebindings_of v f.ext)) (switch_count script exts history v f.before (f.ext ∷ f.later) f.admitted)
-    ∙ (sym (length-append (rebindings_at v f.before) (rebindings_of v f.ext)) ∙ ap (λ (rs : List Asking). length rs) (sym (rebindings-append v f.before (f.ext ∷ []))))))
+    ∙ (sym (length-append (rebindings_at v f.before) (rebindings_of v f.ext)) ∙ ap (λ (rs : List Asking). length rs) (sym (rebindings_at-append v f.before (f.ext ∷ []))))))

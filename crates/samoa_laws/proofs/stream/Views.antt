@@ -17,7 +17,6 @@ use Rattle.samoa_laws.specs.trace.Group.{IsGroup}
 use Rattle.samoa_serial.proofs.ListLaws.{each_in, in_middle}
 use Rattle.samoa_laws.proofs.trace.Nested.{nested-numbers}
 use Rattle.samoa_laws.proofs.trace.Steps.{Before, IsAt, before, goes_on_at_once, setting}
-use Rattle.samoa_laws.specs.replacement.Lists as box
 use Rattle.samoa_laws.specs.replacement.Casts.{handler_of}
 use Rattle.samoa_laws.specs.replacement.History.{GoesOn as GoesOnAtOnce, IsHistory, Step, given, left_by}
 use Rattle.samoa_laws.specs.replacement.History.{frame_of as handed_frame}

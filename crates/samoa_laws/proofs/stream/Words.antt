@@ -12,7 +12,7 @@ use Rattle.samoa_laws.specs.trace.Group.{IsGroupHistory}
 use Rattle.samoa_laws.proofs.trace.Accepted.{group_length}
 use Rattle.samoa_laws.proofs.trace.Entries.{node_outputs}
 use Rattle.samoa_laws.proofs.trace.Points.{trace-is_trace}
-use Rattle.samoa_laws.specs.replacement.Lists.{IsApart}
+use Rattle.samoa_laws.specs.lists.Lists.{IsApart}
 use Rattle.samoa_laws.specs.replacement.History.{begin_alike, stream, words_in}
 use Rattle.samoa_laws.proofs.replacement.Histories.{stream_apart}
 use Rattle.samoa_laws.specs.stream.Streams.{repl_setup, delivered_at, delivered_in, repl_at, repl_step_of, stream_at}

@@ -20,8 +20,8 @@ use Rattle.samoa_serial.proofs.RangeLaws.{admitted_in_range}
 use Rattle.samoa_serial.proofs.CodeLaws.{entries_are_known}
 use Rattle.samoa_laws.specs.trace.Group.{IsGroup, IsGroupHistory}
 use Rattle.samoa_laws.proofs.trace.Admitted.{admitted_is_group_history}
-use Rattle.samoa_laws.specs.replacement.Lists.{Comparable, IsApart, IsPrefix}
-use Rattle.samoa_laws.proofs.replacement.Lists.{comparable_map, comparable_prefixes}
+use Rattle.samoa_laws.proofs.lists.Lists.{comparable_begins, comparable_map}
+use Rattle.samoa_laws.specs.lists.Lists.{Begins, Comparable, IsApart}
 use Rattle.samoa_laws.specs.stream.Streams.{delivered_at, delivered_in, stream_at}
 use Rattle.samoa_laws.proofs.stream.Order.{comparable}
 use Rattle.samoa_laws.proofs.group.Owed.{are_submitted, keeps_order}
@@ -156,33 +156,33 @@ apart_first same (x ∷ xs) ys h = (none_first (λ y. same x y) xs ys h.0, apart
 -- beginnings of two such texts
 module _ (script : Script) (range : IsInRange script) (exts : List Ext) (history : IsGroupHistory script exts) where
   pub begin_comparable : (first whole second other : List ℕ) (v u : ℕ) → stream_in whole v ≡ texts (stream_at script exts v) → stream_in other u ≡ texts (stream_at script exts u)
-      → IsPrefix first whole → IsPrefix second other → Comparable (stream_in first v) (stream_in second u)
+      → Begins first whole → Begins second other → Comparable (stream_in first v) (stream_in second u)
   begin_comparable first whole second other v u is also p q =
-      comparable_prefixes (texts (stream_at script exts v)) (texts (stream_at script exts u)) (stream_in first v) (stream_in second u)
+      comparable_begins (texts (stream_at script exts v)) (texts (stream_at script exts u)) (stream_in first v) (stream_in second u)
       (comparable_map (λ (w : List ℕ). map decimal w) (stream_at script exts v) (stream_at script exts u)
       (comparable script exts history (keeps_order script exts history) (are_submitted script exts history) v u))
-      (subst (λ (ws : List (List (List ℕ))). IsPrefix (stream_in first v) ws) is (told_prefix v (codes "repl") first whole p))
-      (subst (λ (ws : List (List (List ℕ))). IsPrefix (stream_in second u) ws) also (told_prefix u (codes "repl") second other q))
+      (subst (λ (ws : List (List (List ℕ))). Begins (stream_in first v) ws) is (told_prefix v (codes "repl") first whole p))
+      (subst (λ (ws : List (List (List ℕ))). Begins (stream_in second u) ws) also (told_prefix u (codes "repl") second other q))
 
-  pub begin_apart : (first whole : List ℕ) (v : ℕ) → stream_in whole v ≡ texts (stream_at script exts v) → IsPrefix first whole → IsApart alike (stream_in first v)
+  pub begin_apart : (first whole : List ℕ) (v : ℕ) → stream_in whole v ≡ texts (stream_at script exts v) → Begins first whole → IsApart alike (stream_in first v)
   begin_apart first whole v is p =
-      let told : IsPrefix (stream_in first v) (texts (stream_at script exts v)) =
-      subst (λ (ws : List (List (List ℕ))). IsPrefix (stream_in first v) ws) is (told_prefix v (codes "repl") first whole p) in
+      let told : Begins (stream_in first v) (texts (stream_at script exts v)) =
+      subst (λ (ws : List (List (List ℕ))). Begins (stream_in first v) ws) is (told_prefix v (codes "repl") first whole p) in
       apart_first alike (stream_in first v) told.rest (subst (λ (ws : List (List (List ℕ))). IsApart alike ws) told.is (stream_apart script exts v range history))
 
 module _ (script : Script) (group : IsGroup script) (range : IsInRange script) where
-  pub written_comparable : (calls others : Bool) (first second : List ℕ) (v u : ℕ) → IsPrefix first (report_in_full script calls) → IsPrefix second (report_in_full script others)
+  pub written_comparable : (calls others : Bool) (first second : List ℕ) (v u : ℕ) → Begins first (report_in_full script calls) → Begins second (report_in_full script others)
       → Comparable (stream_in first v) (stream_in second u)
   written_comparable calls others first second v u p q =
       begin_comparable script range (admitted script) (admitted_is_group_history script group range) first (report_in_full script calls) second (report_in_full script others) v u
       (full_streams script group range calls v) (full_streams script group range others u) p q
 
-  pub written_apart : (calls : Bool) (first : List ℕ) (v : ℕ) → IsPrefix first (report_in_full script calls) → IsApart alike (stream_in first v)
+  pub written_apart : (calls : Bool) (first : List ℕ) (v : ℕ) → Begins first (report_in_full script calls) → IsApart alike (stream_in first v)
   written_apart calls first v p =
       begin_apart script range (admitted script) (admitted_is_group_history script group range) first (report_in_full script calls) v (full_streams script group range calls v) p
 
   -- a beginning of a text that tells the streams
-  one_order : (first whole : List ℕ) → ((v : ℕ) → stream_in whole v ≡ texts (stream_at script (admitted script) v)) → IsPrefix first whole → TellsOneOrder first
+  one_order : (first whole : List ℕ) → ((v : ℕ) → stream_in whole v ≡ texts (stream_at script (admitted script) v)) → Begins first whole → TellsOneOrder first
   one_order first whole tells p =
       let history : IsGroupHistory script (admitted script) = admitted_is_group_history script group range in
       record {
@@ -218,12 +218,12 @@ module _ (script : Script) (group : IsGroup script) (range : IsInRange script) w
 
 -- the same of the report of any group history
 module _ (script : Script) (range : IsInRange script) (exts : List Ext) (history : IsGroupHistory script exts) where
-  pub history_comparable : (calls others : Bool) (first second : List ℕ) (v u : ℕ) → IsPrefix first (report_of script calls exts) → IsPrefix second (report_of script others exts)
+  pub history_comparable : (calls others : Bool) (first second : List ℕ) (v u : ℕ) → Begins first (report_of script calls exts) → Begins second (report_of script others exts)
       → Comparable (stream_in first v) (stream_in second u)
   history_comparable calls others first second v u p q =
       begin_comparable script range exts history first (report_of script calls exts) second (report_of script others exts) v u
       (report_streams script history.group range calls exts history v) (report_streams script history.group range others exts history u) p q
 
-  pub history_apart : (calls : Bool) (first : List ℕ) (v : ℕ) → IsPrefix first (report_of script calls exts) → IsApart alike (stream_in first v)
+  pub history_apart : (calls : Bool) (first : List ℕ) (v : ℕ) → Begins first (report_of script calls exts) → IsApart alike (stream_in first v)
   history_apart calls first v p =
       begin_apart script range exts history first (report_of script calls exts) v (report_streams script history.group range calls exts history v) p

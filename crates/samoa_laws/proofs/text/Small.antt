@@ -18,7 +18,7 @@ use Rattle.samoa_laws.specs.trace.Group.{IsGroupHistory, event_for, handler}
 use Rattle.samoa_serial.proofs.ListLaws.{each_in, in_middle}
 use Rattle.samoa_laws.proofs.trace.Points.{trace-is_trace}
 use Rattle.samoa_laws.proofs.trace.Steps.{Before, before}
-use Rattle.samoa_laws.specs.replacement.Lists.{IsApart}
+use Rattle.samoa_laws.specs.lists.Lists.{IsApart}
 use Rattle.samoa_serial.specs.Lists.{In}
 use Rattle.samoa_laws.specs.replacement.Group.{IsOrdered, Up, messages_of}
 use Rattle.samoa_laws.specs.replacement.History.{begin_alike, left_by, said}

@@ -1,6 +1,6 @@
 -- What a text tells, part by part.
 use Rattle.std.proofs.Common.{◌≡◌, refl, sym, ap, ◌∙◌, ℕ, Bool, true, false, ◌&&◌, if◌then◌else◌, List, [], ◌∷◌, ◌++◌, map, drop, append_assoc, append-nil, codes, bytes_eq}
-use Rattle.samoa_laws.specs.replacement.Lists.{IsPrefix}
+use Rattle.samoa_laws.specs.lists.Lists.{Begins}
 use Rattle.samoa_laws.specs.text.Text.{lines, fields}
 use Rattle.samoa_serial.specs.Lists.{Each}
 use Rattle.samoa_laws.specs.text.Clause.{IsMute, IsMuteLine}
@@ -65,14 +65,14 @@ tells_delivery v name here {line} mine plain h d rest =
     go false = refl
 
 -- what lines that begin others tell begins what those tell
-told_begins : (v : ℕ) (name : List ℕ) (here : Bool) (first later : List (List (List ℕ))) → IsPrefix (told_in v name here first) (told_in v name here (first ++ later))
+told_begins : (v : ℕ) (name : List ℕ) (here : Bool) (first later : List (List (List ℕ))) → Begins (told_in v name here first) (told_in v name here (first ++ later))
 told_begins v name here [] later = record { rest = told_in v name here later; is = refl }
 told_begins v name here (line ∷ first) later =
     go (heads line) (delivers name line && here) (told_begins v name (is_at v line) first later) (told_begins v name here first later)
   where
-    go : (h d : Bool) → IsPrefix (told_in v name (is_at v line) first) (told_in v name (is_at v line) (first ++ later))
-        → IsPrefix (told_in v name here first) (told_in v name here (first ++ later))
-        → IsPrefix (if h then told_in v name (is_at v line) first else (if d then drop 3 line ∷ told_in v name here first else told_in v name here first))
+    go : (h d : Bool) → Begins (told_in v name (is_at v line) first) (told_in v name (is_at v line) (first ++ later))
+        → Begins (told_in v name here first) (told_in v name here (first ++ later))
+        → Begins (if h then told_in v name (is_at v line) first else (if d then drop 3 line ∷ told_in v name here first else told_in v name here first))
         (if h then told_in v name (is_at v line) (first ++ later) else (if d then drop 3 line ∷ told_in v name here (first ++ later) else told_in v name here (first ++ later)))
     go true d headed on = headed
     go false true headed on = record { rest = on.rest; is = ap (λ (ls : List (List (List ℕ))). drop 3 line ∷ ls) on.is }
@@ -83,10 +83,10 @@ map_both [] ys = refl
 map_both (x ∷ xs) ys = ap (λ (ls : List (List (List ℕ))). fields x ∷ ls) (map_both xs ys)
 
 -- what the beginning of a text tells begins what the whole tells
-pub told_prefix : (v : ℕ) (name first whole : List ℕ) → IsPrefix first whole → IsPrefix (told_at v name first) (told_at v name whole)
+pub told_prefix : (v : ℕ) (name first whole : List ℕ) → Begins first whole → Begins (told_at v name first) (told_at v name whole)
 told_prefix v name first whole p =
-    let ends : IsPrefix (lines first) (lines (first ++ p.rest)) = pieces_begin 10 [] first p.rest in
-    let told : IsPrefix (told_at v name first) (told_in v name false (cut first ++ map fields ends.rest)) =
+    let ends : Begins (lines first) (lines (first ++ p.rest)) = pieces_begin 10 [] first p.rest in
+    let told : Begins (told_at v name first) (told_in v name false (cut first ++ map fields ends.rest)) =
     told_begins v name false (cut first) (map fields ends.rest) in
     record {
       rest = told.rest;

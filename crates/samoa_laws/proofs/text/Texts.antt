@@ -6,7 +6,7 @@ use Rattle.std.specs.Fmt.{digit_glyph, digits_onto, digits}
 use Rattle.std.proofs.lemmas.Bool.{false≢true}
 use Rattle.samoa_model.specs.NameRule.{is_name_byte, is_script_name}
 use Rattle.samoa_serial.specs.Lines.{word_text, words_text}
-use Rattle.samoa_laws.specs.replacement.Lists.{IsPrefix}
+use Rattle.samoa_laws.specs.lists.Lists.{Begins}
 use Rattle.samoa_laws.specs.text.Text.{pieces_after, lines, fields}
 
 -- no byte of a text is this one
@@ -31,13 +31,13 @@ piece_is end begun (c ∷ piece) rest same l =
     ∙ ap (λ (p : List ℕ). p ∷ pieces_after end [] rest) (append_assoc begun (c ∷ []) piece))
 
 -- the pieces of a text that begins another are the first of that one
-pub pieces_begin : (end : ℕ) (begun text rest : List ℕ) → IsPrefix (pieces_after end begun text) (pieces_after end begun (text ++ rest))
+pub pieces_begin : (end : ℕ) (begun text rest : List ℕ) → Begins (pieces_after end begun text) (pieces_after end begun (text ++ rest))
 pieces_begin end begun [] rest = record { rest = pieces_after end begun rest; is = refl }
 pieces_begin end begun (c ∷ text) rest = go (c == end) (pieces_begin end [] text rest) (pieces_begin end (begun ++ c ∷ []) text rest)
   where
-    go : (b : Bool) → IsPrefix (pieces_after end [] text) (pieces_after end [] (text ++ rest))
-        → IsPrefix (pieces_after end (begun ++ c ∷ []) text) (pieces_after end (begun ++ c ∷ []) (text ++ rest))
-        → IsPrefix (if b then begun ∷ pieces_after end [] text else pieces_after end (begun ++ c ∷ []) text)
+    go : (b : Bool) → Begins (pieces_after end [] text) (pieces_after end [] (text ++ rest))
+        → Begins (pieces_after end (begun ++ c ∷ []) text) (pieces_after end (begun ++ c ∷ []) (text ++ rest))
+        → Begins (if b then begun ∷ pieces_after end [] text else pieces_after end (begun ++ c ∷ []) text)
         (if b then begun ∷ pieces_after end [] (text ++ rest) else pieces_after end (begun ++ c ∷ []) (text ++ rest))
     go true ended on = record { rest = ended.rest; is = ap (λ (ps : List (List ℕ)). begun ∷ ps) ended.is }
     go false ended on = on

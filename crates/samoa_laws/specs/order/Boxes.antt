@@ -4,7 +4,7 @@ use Rattle.samoa_serial.specs.Rows.{word, message_at}
 use Rattle.samoa_model.specs.declared.handler.Moment.{Moment}
 use Rattle.samoa_model.specs.declared.handler.Outcome.{Outcome}
 use Rattle.samoa_serial.specs.declared.message.Message.{Message}
-use Rattle.samoa_laws.specs.order.Lists.{In}
+use Rattle.samoa_laws.specs.lists.Lists.{In}
 
 -- what a step was given, the states before and after it, what it answered, and whether that took effect:
 -- a cut step leaves its new state, and its outcome has no effect

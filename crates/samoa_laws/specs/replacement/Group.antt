@@ -2,9 +2,10 @@
 use Rattle.std.specs.Prelude.{ℕ, ◌^◌, ◌<◌, ◌≤◌, ◌==◌, ◌≡◌, List, length, map, filter}
 use Rattle.samoa_model.specs.declared.setup.Setup.{Setup}
 use Rattle.samoa_serial.specs.declared.message.Message.{Message}
-use Rattle.samoa_laws.specs.replacement.Lists.{Comparable, firsts, unknown}
+use Rattle.samoa_laws.specs.lists.Lists.{Comparable}
+use Rattle.samoa_laws.specs.lists.Messages.{first_places}
 use Rattle.samoa_serial.specs.Lists.{In}
-use Rattle.samoa_laws.specs.replacement.History.{Step, left_by, IsHistory, begun, marks, below, same_message}
+use Rattle.samoa_laws.specs.replacement.History.{Step, left_by, IsHistory, begun, marks, below}
 
 -- a message with which `deliver` began, and the protocol that called it up
 pub record Up : Type 0 where
@@ -30,4 +31,4 @@ pub record IsOrdered (steps : ℕ → List Step) (ups : ℕ → List Up) (protoc
   pub begun : (v : ℕ) → messages_of (ups v) ≡ begun (steps v)
   pub called : (v : ℕ) (c : Up) → In c (ups v) → c.message.epoch ≤ (left_by (steps v)).epoch
       → (w : ℕ) × (c.message.epoch ≤ (left_by (steps w)).epoch) × (c.by ≡ protocol c.message.epoch (below c.message.epoch (marks (steps w))))
-  pub order : (p v u : ℕ) → Comparable (firsts same_message unknown (called_by p (ups v))) (firsts same_message unknown (called_by p (ups u)))
+  pub order : (p v u : ℕ) → Comparable (first_places (called_by p (ups v))) (first_places (called_by p (ups u)))

@@ -9,7 +9,7 @@ use Rattle.samoa_model.specs.declared.ids.ChangeId.{ChangeId}
 use Rattle.samoa_model.specs.declared.setup.Setup.{Setup}
 use Rattle.samoa_serial.specs.declared.message.Message.{Message}
 use Rattle.std.specs.List.{list_all}
-use Rattle.samoa_laws.specs.replacement.Lists.{among, firsts}
+use Rattle.samoa_laws.specs.lists.Lists.{among, firsts}
 use Rattle.samoa_serial.specs.State.{ReplState}
 use Rattle.samoa_serial.specs.Rows.{word, up, change_at_place, message_at, has_pair}
 use Rattle.samoa_serial.specs.ReplTable.{pair_of, first_of, is_to_come, repl_hand_on, repl_step}
@@ -124,12 +124,9 @@ of_epoch e ms = filter (λ (m : Message). m.epoch == e) ms
 abbrev pub below : ℕ → List Message → List Message
 below e ms = filter (λ (m : Message). nat_lt m.epoch e) ms
 
--- with the same origin and number, and in all five words
+-- with the same origin and number
 abbrev pub same_pair : Message → Message → Bool
 same_pair x y = (x.origin == y.origin) && (x.number == y.number)
-
-abbrev pub same_message : Message → Message → Bool
-same_message x y = (x.epoch == y.epoch) && same_pair x y && (x.kind == y.kind) && (x.value == y.value)
 
 -- a change message, where there are so many changes
 abbrev pub is_turn : ℕ → Message → Bool

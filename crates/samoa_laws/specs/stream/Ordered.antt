@@ -8,10 +8,10 @@ use Rattle.samoa_serial.specs.declared.message.Message.{Message}
 use Rattle.samoa_serial.specs.Lists.{In}
 use Rattle.samoa_laws.specs.trace.Trace.{HandlerStep, micro_of, trace}
 use Rattle.samoa_laws.specs.trace.Group.{Asking, handler}
-use Rattle.samoa_laws.specs.replacement.Lists as list
-use Rattle.samoa_laws.specs.replacement.Lists.{Comparable, firsts, unknown}
+use Rattle.samoa_laws.specs.lists.Lists.{Comparable}
+use Rattle.samoa_laws.specs.lists.Messages.{first_places}
 use Rattle.samoa_laws.specs.replacement.Group.{Up, called_by}
-use Rattle.samoa_laws.specs.replacement.History.{last_value, same_message}
+use Rattle.samoa_laws.specs.replacement.History.{last_value}
 use Rattle.samoa_laws.specs.stream.Streams.{is_repl}
 
 -- the microprotocol of the last of these steps
@@ -36,7 +36,7 @@ IsBroadcast p = (p ≡ 4) ⊎ (p ≡ 5)
 -- what one broadcast calls up at two nodes: of the messages, each at its first place, one list begins the other
 abbrev pub KeepsOrder : Script → List Ext → Type 0
 KeepsOrder script exts = (p : ℕ) → IsBroadcast p → (v u : ℕ)
-    → Comparable (firsts same_message unknown (called_by p (ups_at v (trace script exts)))) (firsts same_message unknown (called_by p (ups_at u (trace script exts))))
+    → Comparable (first_places (called_by p (ups_at v (trace script exts)))) (first_places (called_by p (ups_at u (trace script exts))))
 
 -- what came up came by a broadcast, and was given to it at some node: one of these steps begins its `cast` with it
 pub record WasSubmitted (past : List HandlerStep) (c : Up) : Type 0 where

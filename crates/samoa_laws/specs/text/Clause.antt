@@ -1,7 +1,7 @@
 -- What is written for a script of the group stack, whatever the status.
 use Rattle.std.specs.Prelude.{◌≡◌, ℕ, false, List, Option, bytes_eq, codes}
 use Rattle.std.specs.Io.KnownBytes.{Appends}
-use Rattle.samoa_laws.specs.replacement.Lists.{Comparable, IsApart}
+use Rattle.samoa_laws.specs.lists.Lists.{Comparable, IsApart}
 use Rattle.samoa_serial.specs.Lists.{Each}
 use Rattle.samoa_laws.specs.text.Text.{fields, lines}
 use Rattle.samoa_laws.specs.text.Told.{alike, field, heads, told_at}

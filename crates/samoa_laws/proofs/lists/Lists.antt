@@ -1,17 +1,18 @@
--- Prefixes, first places, and what stands apart.
+-- Lists: what stands in them, which begin one another, first places, and what stands apart.
 use Rattle.std.proofs.Common.{Bool, true, false, not, cond, ◌||◌, ◌≡◌, ◌⊎◌, inl, inr, List, [], ◌∷◌, ◌++◌, map, refl, sym, ap, ◌∙◌, filter, if◌then◌else◌, append_assoc, append-nil, true≢false}
 use Rattle.std.specs.List.{list_any}
 use Rattle.std.proofs.lemmas.Bool.{cond_both, or_left, or_right, false≢true}
 use Rattle.std.proofs.lemmas.List.{map-append}
 use Rattle.std.proofs.lemmas.List.Elements.{filter-append}
-use Rattle.samoa_laws.specs.replacement.Lists.{IsPrefix, Comparable, among, firsts, IsApart, EndsOnlyIn}
+use Rattle.samoa_serial.proofs.ListLaws.{in_middle, begins-append, begins-refl, begins-trans}
+use Rattle.samoa_laws.specs.lists.Lists.{In, Begins, Comparable, among, firsts, unknown, IsApart, EndsOnlyIn}
 
 -- ---- tests
 or_assoc : (a b c : Bool) → ((a || b) || c) ≡ (a || (b || c))
 or_assoc true b c = refl
 or_assoc false b c = refl
 
-or_none : (a : Bool) → (a || false) ≡ a
+pub or_none : (a : Bool) → (a || false) ≡ a
 or_none true = refl
 or_none false = refl
 
@@ -29,39 +30,71 @@ or_swap false true false = refl
 or_swap false false true = refl
 or_swap false false false = refl
 
--- ---- prefixes
-pub prefix_same : {A : Type 0} (l : List A) → IsPrefix l l
-prefix_same l = record { rest = []; is = sym (append-nil l) }
+-- ---- what stands in a list
+pub in_end : {A : Type 0} (xs : List A) (y : A) → In y (xs ++ y ∷ [])
+in_end xs y = in_middle y xs []
 
-pub prefix_end : {A : Type 0} (l r : List A) → IsPrefix l (l ++ r)
-prefix_end l r = record { rest = r; is = refl }
+pub in_split : {A : Type 0} (xs : List A) (y z : A) → In z (xs ++ y ∷ []) → In z xs ⊎ (z ≡ y)
+in_split [] y z (inl e) = inr e
+in_split [] y z (inr none) = absurd none
+in_split (x ∷ xs) y z (inl e) = inl (inl e)
+in_split (x ∷ xs) y z (inr h) = go (in_split xs y z h)
+  where
+    go : In z xs ⊎ (z ≡ y) → In z (x ∷ xs) ⊎ (z ≡ y)
+    go (inl i) = inl (inr i)
+    go (inr e) = inr e
 
-pub prefix_then : {A : Type 0} (l m k : List A) → IsPrefix l m → IsPrefix m k → IsPrefix l k
-prefix_then l m k p q = record {
-  rest = p.rest ++ q.rest;
-  is = q.is ∙ ap (λ z. z ++ q.rest) p.is ∙ append_assoc l p.rest q.rest;
-}
+pub in_map : {A B : Type 0} (f : A → B) (xs : List A) (x : A) → In x xs → In (f x) (map f xs)
+in_map f [] x h = absurd h
+in_map f (y ∷ ys) x (inl e) = inl (ap f e)
+in_map f (y ∷ ys) x (inr h) = inr (in_map f ys x h)
 
-pub prefix_after : {A : Type 0} (f l m : List A) → IsPrefix l m → IsPrefix (f ++ l) (f ++ m)
-prefix_after f l m p = record { rest = p.rest; is = ap (λ z. f ++ z) p.is ∙ sym (append_assoc f l p.rest) }
+pub in_mapped : {A B : Type 0} (f : A → B) (xs : List A) (y : B) → In y (map f xs) → (x : A) × In x xs × (f x ≡ y)
+in_mapped f [] y h = absurd h
+in_mapped f (x ∷ xs) y (inl e) = (x, inl refl, sym e)
+in_mapped f (x ∷ xs) y (inr h) =
+    let r = in_mapped f xs y h in (r.0, inr r.1, r.2)
 
-pub prefix_filter : {A : Type 0} (p : A → Bool) (l m : List A) → IsPrefix l m → IsPrefix (filter p l) (filter p m)
-prefix_filter p l m h = record { rest = filter p h.rest; is = ap (λ z. filter p z) h.is ∙ filter-append p l h.rest }
+pub in_any : {A : Type 0} (p : A → Bool) (xs : List A) (x : A) → In x xs → p x ≡ true → list_any p xs ≡ true
+in_any p [] x h t = absurd h
+in_any p (y ∷ ys) x (inl e) t = ap (λ (b : Bool). b || list_any p ys) (sym (ap p e) ∙ t)
+in_any p (y ∷ ys) x (inr h) t = go (p y) (in_any p ys x h t)
+  where
+    go : (b : Bool) → list_any p ys ≡ true → (b || list_any p ys) ≡ true
+    go true r = refl
+    go false r = r
 
-pub prefix_map : {A B : Type 0} (f : A → B) (l m : List A) → IsPrefix l m → IsPrefix (map f l) (map f m)
-prefix_map f l m h = record { rest = map f h.rest; is = ap (λ z. map f z) h.is ∙ map-append f l h.rest }
+pub any_in : {A : Type 0} (p : A → Bool) (xs : List A) → list_any p xs ≡ true → (x : A) × In x xs × (p x ≡ true)
+any_in p [] t = absurd (cc)
+any_in {A} p (y ∷ ys) t = go (any_in p ys) (p y) refl t
+  where
+    go : (list_any p ys ≡ true → (x : A) × In x ys × (p x ≡ true)) → (b : Bool) → p y ≡ b → (b || list_any p ys) ≡ true
+        → (x : A) × In x (y ∷ ys) × (p x ≡ true)
+    go ih true e h = (y, inl refl, e)
+    go ih false e h =
+        let r = ih h in (r.0, inr r.1, r.2)
+
+-- ---- beginnings
+pub begins_after : {A : Type 0} (f l m : List A) → Begins l m → Begins (f ++ l) (f ++ m)
+begins_after f l m p = record { rest = p.rest; is = ap (λ z. f ++ z) p.is ∙ sym (append_assoc f l p.rest) }
+
+pub begins_filter : {A : Type 0} (p : A → Bool) (l m : List A) → Begins l m → Begins (filter p l) (filter p m)
+begins_filter p l m h = record { rest = filter p h.rest; is = ap (λ z. filter p z) h.is ∙ filter-append p l h.rest }
+
+pub begins_map : {A B : Type 0} (f : A → B) (l m : List A) → Begins l m → Begins (map f l) (map f m)
+begins_map f l m h = record { rest = map f h.rest; is = ap (λ z. map f z) h.is ∙ map-append f l h.rest }
 
 pub comparable_filter : {A : Type 0} (p : A → Bool) (l m : List A) → Comparable l m → Comparable (filter p l) (filter p m)
-comparable_filter p l m (inl h) = inl (prefix_filter p l m h)
-comparable_filter p l m (inr h) = inr (prefix_filter p m l h)
+comparable_filter p l m (inl h) = inl (begins_filter p l m h)
+comparable_filter p l m (inr h) = inr (begins_filter p m l h)
 
 pub comparable_map : {A B : Type 0} (f : A → B) (l m : List A) → Comparable l m → Comparable (map f l) (map f m)
-comparable_map f l m (inl h) = inl (prefix_map f l m h)
-comparable_map f l m (inr h) = inr (prefix_map f m l h)
+comparable_map f l m (inl h) = inl (begins_map f l m h)
+comparable_map f l m (inr h) = inr (begins_map f m l h)
 
 pub comparable_after : {A : Type 0} (f l m : List A) → Comparable l m → Comparable (f ++ l) (f ++ m)
-comparable_after f l m (inl h) = inl (prefix_after f l m h)
-comparable_after f l m (inr h) = inr (prefix_after f m l h)
+comparable_after f l m (inl h) = inl (begins_after f l m h)
+comparable_after f l m (inr h) = inr (begins_after f m l h)
 
 pub comparable_back : {A : Type 0} (l m : List A) → Comparable l m → Comparable m l
 comparable_back l m (inl h) = inr h
@@ -73,32 +106,32 @@ head_of x y xs ys e = cc
 tail_of : {A : Type 0} (x y : A) (xs ys : List A) → x ∷ xs ≡ y ∷ ys → xs ≡ ys
 tail_of x y xs ys e = cc
 
-cons_prefix : {A : Type 0} (x y : A) (l m : List A) → x ≡ y → IsPrefix l m → IsPrefix (x ∷ l) (y ∷ m)
-cons_prefix x y l m e h = record { rest = h.rest; is = ap (λ z. y ∷ z) h.is ∙ ap (λ z. z ∷ (l ++ h.rest)) (sym e) }
+cons_begins : {A : Type 0} (x y : A) (l m : List A) → x ≡ y → Begins l m → Begins (x ∷ l) (y ∷ m)
+cons_begins x y l m e h = record { rest = h.rest; is = ap (λ z. y ∷ z) h.is ∙ ap (λ z. z ∷ (l ++ h.rest)) (sym e) }
 
 -- two that begin one list
-two_prefixes : {A : Type 0} (l m r s : List A) → l ++ r ≡ m ++ s → Comparable l m
-two_prefixes [] m r s e = inl (record { rest = m; is = refl })
-two_prefixes (x ∷ l) [] r s e = inr (record { rest = x ∷ l; is = refl })
-two_prefixes (x ∷ l) (y ∷ m) r s e = go (two_prefixes l m r s (tail_of x y (l ++ r) (m ++ s) e))
+both_begin : {A : Type 0} (l m r s : List A) → l ++ r ≡ m ++ s → Comparable l m
+both_begin [] m r s e = inl (record { rest = m; is = refl })
+both_begin (x ∷ l) [] r s e = inr (record { rest = x ∷ l; is = refl })
+both_begin (x ∷ l) (y ∷ m) r s e = go (both_begin l m r s (tail_of x y (l ++ r) (m ++ s) e))
   where
     same : x ≡ y
     same = head_of x y (l ++ r) (m ++ s) e
 
     go : Comparable l m → Comparable (x ∷ l) (y ∷ m)
-    go (inl h) = inl (cons_prefix x y l m same h)
-    go (inr h) = inr (cons_prefix y x m l (sym same) h)
+    go (inl h) = inl (cons_begins x y l m same h)
+    go (inr h) = inr (cons_begins y x m l (sym same) h)
 
-pub prefixes_of_one : {A : Type 0} (l m k : List A) → IsPrefix l k → IsPrefix m k → Comparable l m
-prefixes_of_one l m k p q = two_prefixes l m p.rest q.rest (sym p.is ∙ q.is)
+pub begin_one : {A : Type 0} (l m k : List A) → Begins l k → Begins m k → Comparable l m
+begin_one l m k p q = both_begin l m p.rest q.rest (sym p.is ∙ q.is)
 
 -- prefixes of comparable lists are comparable
-pub comparable_prefixes : {A : Type 0} (l m l' m' : List A) → Comparable l m → IsPrefix l' l → IsPrefix m' m → Comparable l' m'
-comparable_prefixes l m l' m' (inl h) p q = prefixes_of_one l' m' m (prefix_then l' l m p h) q
-comparable_prefixes l m l' m' (inr h) p q = prefixes_of_one l' m' l p (prefix_then m' m l q h)
+pub comparable_begins : {A : Type 0} (l m l' m' : List A) → Comparable l m → Begins l' l → Begins m' m → Comparable l' m'
+comparable_begins l m l' m' (inl h) p q = begin_one l' m' m (begins-trans l' l m p h) q
+comparable_begins l m l' m' (inr h) p q = begin_one l' m' l p (begins-trans m' m l q h)
 
 -- ---- one element at the end
-any_append : {A : Type 0} (p : A → Bool) (l m : List A) → list_any p (l ++ m) ≡ (list_any p l || list_any p m)
+pub any_append : {A : Type 0} (p : A → Bool) (l m : List A) → list_any p (l ++ m) ≡ (list_any p l || list_any p m)
 any_append p [] m = refl
 any_append p (x ∷ l) m = ap (λ b. p x || b) (any_append p l m) ∙ sym (or_assoc (p x) (list_any p l) (list_any p m))
 
@@ -157,22 +190,76 @@ firsts-append {A} same trans S closed (x ∷ l) r =
         (firsts_cong same (λ y. (S y || same x y) || among same l y) (λ y. S y || (same x y || among same l y))
         (λ y. or_assoc (S y) (same x y) (among same l y)) r)
 
--- one element more stands at the end where it is new
-pub firsts_push : {A : Type 0} (same : A → A → Bool) → IsTransitive same → (S : A → Bool) → IsClosed same S → (l : List A) (x : A)
-    → firsts same S (l ++ x ∷ []) ≡ firsts same S l ++ (if S x || among same l x then [] else x ∷ [])
-firsts_push same trans S closed l x = firsts-append same trans S closed l (x ∷ [])
+-- nothing is known, and so all that is like it is
+pub closed_unknown : {A : Type 0} (same : A → A → Bool) → IsClosed same unknown
+closed_unknown same x y known alike = absurd (cc)
 
-pub prefix_firsts : {A : Type 0} (same : A → A → Bool) → IsTransitive same → (S : A → Bool) → IsClosed same S → (l m : List A)
-    → IsPrefix l m → IsPrefix (firsts same S l) (firsts same S m)
-prefix_firsts same trans S closed l m h = record {
+-- one element more stands at the end where it is new
+firsts_push : {A : Type 0} (same : A → A → Bool) → IsTransitive same → (l : List A) (x : A)
+    → firsts same unknown (l ++ x ∷ []) ≡ firsts same unknown l ++ (if among same l x then [] else x ∷ [])
+firsts_push same trans l x = firsts-append same trans unknown (closed_unknown same) l (x ∷ [])
+
+pub firsts_old : {A : Type 0} (same : A → A → Bool) → IsTransitive same → (l : List A) (x : A) → among same l x ≡ true
+    → firsts same unknown (l ++ x ∷ []) ≡ firsts same unknown l
+firsts_old same trans l x old =
+    firsts_push same trans l x ∙ (ap (λ (b : Bool). firsts same unknown l ++ (if b then [] else x ∷ [])) old ∙ append-nil (firsts same unknown l))
+
+pub firsts_new : {A : Type 0} (same : A → A → Bool) → IsTransitive same → (l : List A) (x : A) → among same l x ≡ false
+    → firsts same unknown (l ++ x ∷ []) ≡ firsts same unknown l ++ x ∷ []
+firsts_new same trans l x new = firsts_push same trans l x ∙ ap (λ (b : Bool). firsts same unknown l ++ (if b then [] else x ∷ [])) new
+
+-- what stands at a first place stands in the list
+pub firsts_in : {A : Type 0} (same : A → A → Bool) (known : A → Bool) (xs : List A) (z : A) → In z (firsts same known xs) → In z xs
+firsts_in same known [] z h = h
+firsts_in same known (x ∷ xs) z h = go (known x) (firsts_in same known xs z) (firsts_in same (with_one same known x) xs z) h
+  where
+    go : (b : Bool) → (In z (firsts same known xs) → In z xs) → (In z (firsts same (with_one same known x) xs) → In z xs)
+        → In z (if b then firsts same known xs else x ∷ firsts same (with_one same known x) xs) → In z (x ∷ xs)
+    go true skip keep i = inr (skip i)
+    go false skip keep (inl e) = inl e
+    go false skip keep (inr i) = inr (keep i)
+
+-- where only equals are the same, each element that is not known has a first place
+in_firsts_from : {A : Type 0} (same : A → A → Bool) → ((a b : A) → same a b ≡ true → a ≡ b) → (known : A → Bool) (xs : List A) (z : A) → In z xs
+    → In z (firsts same known xs) ⊎ (known z ≡ true)
+in_firsts_from same equal known [] z h = absurd h
+in_firsts_from same equal known (x ∷ xs) z (inl e) = go (known x) refl
+  where
+    go : (b : Bool) → known x ≡ b → In z (if b then firsts same known xs else x ∷ firsts same (with_one same known x) xs) ⊎ (known z ≡ true)
+    go true t = inr (ap known e ∙ t)
+    go false t = inl (inl e)
+in_firsts_from same equal known (x ∷ xs) z (inr h) =
+    go (known x) (in_firsts_from same equal known xs z h) (in_firsts_from same equal (with_one same known x) xs z h)
+  where
+    new : (a b : Bool) → known z ≡ a → same x z ≡ b → (a || b) ≡ true → In z (x ∷ firsts same (with_one same known x) xs) ⊎ (known z ≡ true)
+    new true b k s r = inr k
+    new false true k s r = inl (inl (sym (equal x z s)))
+    new false false k s r = absurd (cc)
+
+    go : (b : Bool) → In z (firsts same known xs) ⊎ (known z ≡ true) → In z (firsts same (with_one same known x) xs) ⊎ ((known z || same x z) ≡ true)
+        → In z (if b then firsts same known xs else x ∷ firsts same (with_one same known x) xs) ⊎ (known z ≡ true)
+    go true skip keep = skip
+    go false skip (inl i) = inl (inr i)
+    go false skip (inr r) = new (known z) (same x z) refl refl r
+
+pub in_firsts : {A : Type 0} (same : A → A → Bool) → ((a b : A) → same a b ≡ true → a ≡ b) → (xs : List A) (z : A) → In z xs → In z (firsts same unknown xs)
+in_firsts {A} same equal xs z h = go (in_firsts_from same equal unknown xs z h)
+  where
+    go : In z (firsts same unknown xs) ⊎ (false ≡ true) → In z (firsts same unknown xs)
+    go (inl i) = i
+    go (inr none) = absurd (cc)
+
+pub begins_firsts : {A : Type 0} (same : A → A → Bool) → IsTransitive same → (S : A → Bool) → IsClosed same S → (l m : List A)
+    → Begins l m → Begins (firsts same S l) (firsts same S m)
+begins_firsts same trans S closed l m h = record {
   rest = firsts same (λ y. S y || among same l y) h.rest;
   is = ap (λ z. firsts same S z) h.is ∙ firsts-append same trans S closed l h.rest;
 }
 
 pub comparable_firsts : {A : Type 0} (same : A → A → Bool) → IsTransitive same → (S : A → Bool) → IsClosed same S → (l m : List A)
     → Comparable l m → Comparable (firsts same S l) (firsts same S m)
-comparable_firsts same trans S closed l m (inl h) = inl (prefix_firsts same trans S closed l m h)
-comparable_firsts same trans S closed l m (inr h) = inr (prefix_firsts same trans S closed m l h)
+comparable_firsts same trans S closed l m (inl h) = inl (begins_firsts same trans S closed l m h)
+comparable_firsts same trans S closed l m (inr h) = inr (begins_firsts same trans S closed m l h)
 
 -- the first places by a finer test change nothing
 pub firsts_of_firsts : {A : Type 0} (fine same : A → A → Bool) → IsTransitive same → ((x y : A) → fine x y ≡ true → same x y ≡ true)
@@ -347,21 +434,21 @@ ends_here p (w ∷ l) x r (z ∷ m) y e t f =
     tail_false false b e = e
 
 -- a list that ends only in one, and is a prefix of another such, is it
-ends_prefix : {A : Type 0} (p : A → Bool) (l m : List A) → EndsOnlyIn p l → EndsOnlyIn p m → IsPrefix l m → l ≡ m
-ends_prefix p l m a b h = sym (append-nil l) ∙ ap (λ z. l ++ z) (sym none) ∙ sym h.is
+ends_begin : {A : Type 0} (p : A → Bool) (l m : List A) → EndsOnlyIn p l → EndsOnlyIn p m → Begins l m → l ≡ m
+ends_begin p l m a b h = sym (append-nil l) ∙ ap (λ z. l ++ z) (sym none) ∙ sym h.is
   where
     none : h.rest ≡ []
     none = ends_here p a.front a.last h.rest b.front b.last
         (sym (append_assoc a.front (a.last ∷ []) h.rest) ∙ ap (λ z. z ++ h.rest) (sym a.is) ∙ sym h.is ∙ b.is) a.passes b.others
 
 pub ends_equal : {A : Type 0} (p : A → Bool) (l m : List A) → EndsOnlyIn p l → EndsOnlyIn p m → Comparable l m → l ≡ m
-ends_equal p l m a b (inl h) = ends_prefix p l m a b h
-ends_equal p l m a b (inr h) = sym (ends_prefix p m l b a h)
+ends_equal p l m a b (inl h) = ends_begin p l m a b h
+ends_equal p l m a b (inr h) = sym (ends_begin p m l b a h)
 
 -- a list with none is a prefix of one that ends only in one
-pub none_prefix : {A : Type 0} (p : A → Bool) (l m : List A) → list_any p l ≡ false → EndsOnlyIn p m → Comparable l m → IsPrefix l m
-none_prefix p l m f b (inl h) = h
-none_prefix p l m f b (inr h) =
+pub none_begins : {A : Type 0} (p : A → Bool) (l m : List A) → list_any p l ≡ false → EndsOnlyIn p m → Comparable l m → Begins l m
+none_begins p l m f b (inl h) = h
+none_begins p l m f b (inr h) =
     absurd (true_and_false (list_any p l) (ap (λ z. list_any p z) h.is ∙ any_append p m h.rest ∙ or_left (list_any p m) (list_any p h.rest) (any_last p m b)) f)
 
 -- ---- apart
