@@ -26,7 +26,7 @@ use Rattle.samoa_laws.proofs.order.SeqcastHistories as seqcast
 use Rattle.samoa_laws.specs.broadcast.Begun.{AreProposed, IsAheadBy, IsCastDown, IsDecided, IsHandedOn, IsPart, WasSubmitted, abcast_of, abcast_steps, begun, begun_by, caller, delivered_by, seqcast_of, seqcast_steps, with_caller}
 use Rattle.samoa_laws.proofs.broadcast.Boxes.{Box, steps-few, steps_of}
 use Rattle.samoa_laws.proofs.broadcast.Both.{abcast_box, seqcast_box}
-use Rattle.samoa_laws.proofs.broadcast.Events.{CalledAtOnce, at_once, calls_down, calls_up}
+use Rattle.samoa_laws.proofs.trace.Events.{CalledAtOnce, at_once, calls_down, calls_up}
 use Rattle.samoa_laws.proofs.broadcast.Histories.{abcast_any, abcast_history, part_trace, seqcast_any, seqcast_history, setup_is}
 use Rattle.samoa_laws.proofs.broadcast.Deliveries.{Delivers, called_is_begun, called_is_begun_at_end, calling, delivered_some, delivers_handler}
 use Rattle.samoa_laws.proofs.broadcast.Submitted.{before_part, proposed_submitted, sequenced_submitted}

@@ -22,7 +22,7 @@ use Rattle.samoa_laws.specs.order.Abcast.{listed}
 use Rattle.samoa_laws.specs.order.Boxes.{BoxStep, called_up, noted, raised, raised_by}
 use Rattle.samoa_laws.specs.broadcast.Begun.{begun, begun_by, begun_with, caller, delivered_by, with_caller}
 use Rattle.samoa_laws.proofs.broadcast.Boxes.{Box, made_at, own_index, steps-away, steps-here, steps_of}
-use Rattle.samoa_laws.proofs.broadcast.Events.{CalledAtOnce, at_once, upward_is}
+use Rattle.samoa_laws.proofs.trace.Events.{CalledAtOnce, at_once, upward_is}
 use Rattle.samoa_laws.proofs.broadcast.Histories.{handler_is}
 
 -- the message of a call upwards that took effect

@@ -23,7 +23,7 @@ use Rattle.samoa_laws.proofs.order.Submitted.{broadcasts_cast, proposes_heard, s
 use Rattle.samoa_laws.specs.broadcast.Begun.{IsPart, WasProposed, WasSubmitted, abcast_of, abcast_steps, box_step, box_steps, seqcast_of, seqcast_steps}
 use Rattle.samoa_laws.proofs.broadcast.Boxes.{FromTrace, from_box, in_box, own_index}
 use Rattle.samoa_laws.proofs.broadcast.Both.{apart}
-use Rattle.samoa_laws.proofs.broadcast.Events.{CalledBy, called, proposes}
+use Rattle.samoa_laws.proofs.trace.Events.{CalledBy, called, proposes}
 use Rattle.samoa_laws.proofs.broadcast.Histories.{SeqHeard, abcast_any, handler_is, part_trace, seq_heard, seqcast_any}
 
 -- one of the steps of a part, and the part before it

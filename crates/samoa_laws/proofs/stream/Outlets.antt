@@ -125,72 +125,6 @@ kind_changes nodes v (suc (suc (suc (suc (suc (suc zero)))))) s m ne = absurd (n
 kind_changes nodes v (suc (suc (suc (suc (suc (suc (suc zero))))))) s m ne = by_views (group_setup nodes v 7) s m
 kind_changes nodes v (suc (suc (suc (suc (suc (suc (suc (suc p)))))))) s m ne = by_none (setup_from nodes v no_micro) s m refl
 
--- ---- no box asks for a call later
-abbrev pub NotLater : Outcome → Type 0
-NotLater (Outcome.Later event arg frame) = ⊥
-NotLater _ = ⊤
-
-quiet_now : (o : Outcome) → IsQuiet o → NotLater o
-quiet_now (Outcome.Done reply) q = tt
-quiet_now (Outcome.Call event arg frame) q = tt
-quiet_now (Outcome.Later event arg frame) q = q
-quiet_now (Outcome.Send to event arg frame) q = tt
-quiet_now (Outcome.Deliver arg frame) q = tt
-quiet_now (Outcome.Change change arg frame) q = tt
-
-done_now : (o : Outcome) → IsDone o → NotLater o
-done_now (Outcome.Done reply) d = tt
-done_now (Outcome.Call event arg frame) d = tt
-done_now (Outcome.Later event arg frame) d = d
-done_now (Outcome.Send to event arg frame) d = tt
-done_now (Outcome.Deliver arg frame) d = tt
-done_now (Outcome.Change change arg frame) d = tt
-
-call_now : (o : Outcome) (event : EventId) (arg frame : List ℕ) → o ≡ Outcome.Call event arg frame → NotLater o
-call_now o event arg frame is = subst NotLater (sym is) tt
-
-asks_now : (setup : Setup) (ports : List ℕ) (o : Outcome) → Asks setup ports o → NotLater o
-asks_now setup ports o (Quiet q) = quiet_now o q
-asks_now setup ports o (AtPort port i arg frame is) = call_now o _ arg frame is
-
-talks_now : (setup : Setup) (ports : List ℕ) (o : Outcome) → Talks setup ports o → NotLater o
-talks_now setup ports o (inl t) = call_now o _ _ _ t.is
-talks_now setup ports o (inr a) = asks_now setup ports o a
-
-link_now : (setup : Setup) (m : Moment) (o : Outcome) → LinkShape setup m o → NotLater o
-link_now setup m o (Sends a begun is) = subst NotLater (sym is) tt
-link_now setup m o (Hands a begun lt is) = call_now o _ _ _ is
-link_now setup m o (Silent q) = quiet_now o q
-
-rb_now : (setup : Setup) (m : Moment) (o : Outcome) → RbShape setup m o → NotLater o
-rb_now setup m o (Casts a begun number is) = call_now o _ _ _ is
-rb_now setup m o (Relays a begun is) = call_now o _ _ _ is
-rb_now setup m o (HandsUp i f r resumed one next two is) = call_now o _ _ _ is
-rb_now setup m o (Rests d) = done_now o d
-
-cons_now : (setup : Setup) (o : Outcome) → ConsSays setup o → NotLater o
-cons_now setup o (ConsNothing d) = done_now o d
-cons_now setup o (ConsTells to tag b ts m frame is) = call_now o _ _ _ is
-cons_now setup o (ConsAnnounces i m is) = call_now o _ _ _ is
-cons_now setup o (ConsDecides i m is) = call_now o _ _ _ is
-
-ab_now : (setup : Setup) (o : Outcome) → AbSays setup o → NotLater o
-ab_now setup o (AbNothing d) = done_now o d
-ab_now setup o (AbCasts m is) = call_now o _ _ _ is
-ab_now setup o (AbProposes i m is) = call_now o _ _ _ is
-ab_now setup o (AbHandsOn i m is) = call_now o _ _ _ is
-
-pub kind_now : (nodes v p : ℕ) (s : State) (m : Moment) → NotLater (kind_step (group_micro p).kind (group_setup nodes v p) s m).1
-kind_now nodes v zero s m = link_now (group_setup nodes v 0) m _ (link-step (group_setup nodes v 0) s m)
-kind_now nodes v (suc zero) s m = talks_now (group_setup nodes v 1) _ _ (fd-step (group_setup nodes v 1) s m)
-kind_now nodes v (suc (suc zero)) s m = rb_now (group_setup nodes v 2) m _ (rbcast-step (group_setup nodes v 2) s m)
-kind_now nodes v (suc (suc (suc zero))) s m = cons_now (group_setup nodes v 3) _ (cons-step (group_setup nodes v 3) s m)
-kind_now nodes v (suc (suc (suc (suc zero)))) s m = ab_now (group_setup nodes v 4) _ (abcast-step (group_setup nodes v 4) s m)
-kind_now nodes v (suc (suc (suc (suc (suc zero))))) s m = talks_now (group_setup nodes v 5) _ _ (seqcast-step (group_setup nodes v 5) s m)
-kind_now nodes v (suc (suc (suc (suc (suc (suc zero)))))) s m = asks_now (group_setup nodes v 6) _ _ (repl-step (group_setup nodes v 6) s m)
-kind_now nodes v (suc (suc (suc (suc (suc (suc (suc zero))))))) s m = asks_now (group_setup nodes v 7) _ _ (views-step (group_setup nodes v 7) s m)
-kind_now nodes v (suc (suc (suc (suc (suc (suc (suc (suc p)))))))) s m = asks_now (setup_from nodes v no_micro) _ _ (no_box nodes v s m)
-
 -- ---- the events at the ports
 port_holds : (P : ℕ → Type 0) (ports : List EventId) (port : ℕ) → P 0 → Each (λ (e : EventId). P e.0) ports → P (slice_index_or ports port (record { 0 = 0 })).0
 port_holds P [] port none all = none
@@ -210,22 +144,4 @@ port_no_switch nodes v p port = port_holds (λ e. e ≢ 18) (group_micro p).port
     ports (suc (suc (suc (suc (suc zero))))) = (λ e. omega (arith, e), (λ e. omega (arith, e), tt))
     ports (suc (suc (suc (suc (suc (suc zero)))))) = (λ e. omega (arith, e), (λ e. omega (arith, e), tt))
     ports (suc (suc (suc (suc (suc (suc (suc zero))))))) = (λ e. omega (arith, e), tt)
-    ports (suc (suc (suc (suc (suc (suc (suc (suc p)))))))) = tt
-
--- `ab_cast` stands at a port of the replacement layer alone
-pub port_cast : (nodes v p port : ℕ) → (port_at (group_setup nodes v p) port).0 ≡ 12 → p ≡ 6
-port_cast nodes v p port = port_holds (λ e. e ≡ 12 → p ≡ 6) (group_micro p).ports port (λ e. absurd (omega (arith, e))) (ports p)
-  where
-    ports : (p : ℕ) → Each (λ (e : EventId). e.0 ≡ 12 → p ≡ 6) (group_micro p).ports
-    ports zero = (
-      λ e. absurd (omega (arith, e)),
-      (λ e. absurd (omega (arith, e)), (λ e. absurd (omega (arith, e)), (λ e. absurd (omega (arith, e)), (λ e. absurd (omega (arith, e)), tt)))),
-    )
-    ports (suc zero) = (λ e. absurd (omega (arith, e)), (λ e. absurd (omega (arith, e)), tt))
-    ports (suc (suc zero)) = (λ e. absurd (omega (arith, e)), (λ e. absurd (omega (arith, e)), tt))
-    ports (suc (suc (suc zero))) = (λ e. absurd (omega (arith, e)), (λ e. absurd (omega (arith, e)), (λ e. absurd (omega (arith, e)), tt)))
-    ports (suc (suc (suc (suc zero)))) = (λ e. absurd (omega (arith, e)), (λ e. absurd (omega (arith, e)), (λ e. absurd (omega (arith, e)), tt)))
-    ports (suc (suc (suc (suc (suc zero))))) = (λ e. absurd (omega (arith, e)), (λ e. absurd (omega (arith, e)), tt))
-    ports (suc (suc (suc (suc (suc (suc zero)))))) = (λ e. refl, (λ e. refl, tt))
-    ports (suc (suc (suc (suc (suc (suc (suc zero))))))) = (λ e. absurd (omega (arith, e)), tt)
     ports (suc (suc (suc (suc (suc (suc (suc (suc p)))))))) = tt

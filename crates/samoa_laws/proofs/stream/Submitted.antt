@@ -32,7 +32,7 @@ use Rattle.samoa_laws.specs.stream.Ordered.{in_place}
 use Rattle.samoa_laws.specs.stream.Streams.{repl_setup, repl_at, repl_state, repl_step_of}
 use Rattle.samoa_laws.proofs.stream.Bound.{cast_bound}
 use Rattle.samoa_laws.proofs.stream.Boxes.{Made, box_state, made, test_here}
-use Rattle.samoa_laws.proofs.stream.Outlets.{NotLater, kind_now, port_cast}
+use Rattle.samoa_laws.proofs.trace.Events.{calls_down, never_later, root_other}
 use Rattle.samoa_laws.proofs.stream.Rebound.{rebound_at}
 use Rattle.samoa_laws.proofs.stream.Switches.{rebinding_root, switch_count_in}
 use Rattle.samoa_laws.proofs.stream.Views.{goes_on_at, history_at, length-repl_at}
@@ -90,25 +90,6 @@ not_up script w o (AtPort port (inl one) a f is) e arg frame calls twelve =
 not_up script w o (AtPort port (inr out) a f is) e arg frame calls twelve = absurd out
 
 -- ---- who gave it
--- no computation begins with `ab_cast`
-root_no_cast : (script : Script) (exts : List Ext) → IsGroupHistory script exts → (before : List Ext) (ext : Ext) (later : List Ext) → exts ≡ before ++ ext ∷ later
-    → (root_of script ext.cause).0 ≢ 12
-root_no_cast script exts history before ext later is twelve = go (history.allowed before ext later is)
-  where
-    other : (e : ℕ) → e ≢ 12 → ext.cause ≡ Reason.Event (event e) → ⊥
-    other e ne cause = ne (ap (λ (c : Reason). (root_of script c).0) (sym cause) ∙ twelve)
-
-    go : IsFree ext.cause ⊎ (IsWire script before ext ⊎ IsRebinding script before ext) → ⊥
-    go (inl (inl c)) = other 14 (λ e. omega (arith, e)) c
-    go (inl (inr (inl c))) = other 15 (λ e. omega (arith, e)) c
-    go (inl (inr (inr (inl c)))) = other 16 (λ e. omega (arith, e)) c
-    go (inl (inr (inr (inr (inl c))))) = other 17 (λ e. omega (arith, e)) c
-    go (inl (inr (inr (inr (inr none))))) = none
-    go (inr (inl wire)) = other 0 (λ e. omega (arith, e)) wire.cause
-    go (inr (inr r)) =
-        let root : (root_of script ext.cause).0 ≡ 18 = ap (λ (e : EventId). e.0) (rebinding_root script exts history before ext later is r) in
-        omega (arith, root, twelve)
-
 -- a step of the replacement layer called `ab_cast` with these words, and the handler h stands there
 pub record GivenBy (script : Script) (exts : List Ext) (past : List HandlerStep) (h : HandlerId) (arg : List ℕ) : Type 0 where
   pub step : HandlerStep
@@ -141,11 +122,12 @@ given_by script exts history past x t f at arg e = go f.follows.cause
         first (inr out) = absurd out
 
     go : Cause S past x.call x.moment → GivenBy script exts past h arg
-    go (Cause.Root root) = absurd (root_no_cast script exts history f.before f.ext f.later f.admitted (stands S.root root.bound))
+    go (Cause.Root root) = absurd (root_other script exts history past x f 12 (omega arith) (omega arith) (stands S.root root.bound))
     go (Cause.Called y there calls) = record {
       step = y;
       part = b;
-      six = port_cast script.nodes y.node (micro_of y) port.0 (ap (λ (k : EventId). k.0) (sym port.1) ∙ twelve);
+      six = calls_down script exts history.group b.earlier y b.follows calls.arg calls.frame
+          (calls.outcome ∙ ap (λ (n : ℕ). Outcome.Call (record { 0 = n }) calls.arg calls.frame) twelve);
       event = calls.event;
       frame = calls.frame;
       outcome = calls.outcome ∙ ap (λ (ws : List ℕ). Outcome.Call calls.event ws calls.frame) args;
@@ -163,9 +145,6 @@ given_by script exts history past x t f at arg e = go f.follows.cause
         twelve : calls.event.0 ≡ 12
         twelve = stands calls.event calls.bound
 
-        port : (port : ℕ) × (calls.event ≡ port_at (group_setup script.nodes y.node (micro_of y)) port)
-        port = kind_port script.nodes y.node (micro_of y) y.old y.moment calls.event calls.arg calls.frame (sym (outcome_is script exts history.group b.earlier y b.follows) ∙ calls.outcome)
-
         args : calls.arg ≡ arg
         args = let both : Moment.Begin x.call.handler.index calls.arg ≡ Moment.Begin 0 arg = sym calls.moment ∙ e in cc
 
@@ -179,9 +158,7 @@ given_by script exts history past x t f at arg e = go f.follows.cause
         known =
             each_begins (IsExtOf script) admitted b.follows.later
             (subst (Each (IsExtOf script)) (b.follows.admitted ∙ sym (append_assoc b.follows.before (b.follows.ext ∷ []) b.follows.later)) history.known)
-    go (Cause.Deferred y there calls) =
-        let b : Before script exts past y = before script exts past y t there in
-        absurd (subst NotLater (sym (outcome_is script exts history.group b.earlier y b.follows) ∙ calls.outcome) (kind_now script.nodes y.node (micro_of y) y.old y.moment))
+    go (Cause.Deferred y there calls) = absurd (never_later script exts history.group past t y there calls.event calls.arg calls.frame calls.outcome)
     go (Cause.Resumed r) = absurd (let both : Moment.Resume x.call.handler.index r.goes_on.frame r.goes_on.reply ≡ Moment.Begin 0 arg = sym r.goes_on.moment ∙ e in cc)
 
 -- ---- what is given is of the present epoch, and so many rebindings came there

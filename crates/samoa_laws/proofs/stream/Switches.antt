@@ -29,7 +29,8 @@ use Rattle.samoa_laws.specs.stream.Streams.{is_repl, repl_at, repl_step_of}
 use Rattle.samoa_laws.proofs.stream.Boxes.{Repl_away, Repl_here, here_or_away, test_here}
 use Rattle.samoa_laws.proofs.stream.Listed.{listed, listed_of}
 use Rattle.samoa_laws.proofs.stream.Opened.{adds_some}
-use Rattle.samoa_laws.proofs.stream.Outlets.{NotLater, kind_now, port_no_switch}
+use Rattle.samoa_laws.proofs.stream.Outlets.{port_no_switch}
+use Rattle.samoa_laws.proofs.trace.Events.{never_later}
 use Rattle.samoa_laws.proofs.stream.Views.{step-index}
 
 -- whether `switched` begins here with this step
@@ -93,9 +94,7 @@ switch_begin script exts group v past x t f at begins = go f.follows.comes
         let alone : o.others ≡ [] = cc in
         absurd (subst (λ (hs : List HandlerId). In h hs) alone o.bound)
     go (Comes.AtOnce y earlier is calls) = not_called y (subst (λ (zs : List HandlerStep). In y zs) (sym is) (inl refl)) calls
-    go (Comes.AsDeferred y there calls) =
-        let b : Before script exts past y = before script exts past y t there in
-        absurd (subst NotLater (sym (outcome_is script exts group b.earlier y b.follows) ∙ calls.outcome) (kind_now script.nodes y.node (micro_of y) y.old y.moment))
+    go (Comes.AsDeferred y there calls) = absurd (never_later script exts group past t y there calls.event calls.arg calls.frame calls.outcome)
     go (Comes.OnAgain frame reply moment) = absurd (let both : true ≡ false = sym begins ∙ ap begins_switch moment in cc)
 
 -- a computation of the event `switched` is a rebinding, and the other way round

@@ -24,6 +24,7 @@ use Rattle.samoa_laws.specs.trace.Trace.{HandlerStep, micro_of}
 use Rattle.samoa_laws.specs.trace.Causes as causes
 use Rattle.samoa_laws.specs.trace.Causes.{Calls, Comes, Defers, FollowsIn, IsOther, IsRoot, IsTrace}
 use Rattle.samoa_laws.specs.trace.Group.{IsFree, IsGroup, IsGroupHistory, IsRebinding, IsWire, event, group_changes, group_events, handler}
+use Rattle.samoa_laws.specs.trace.Callers.{callers}
 use Rattle.samoa_laws.proofs.trace.Accepted.{kind_port}
 use Rattle.samoa_serial.proofs.ListLaws.{each_in, in_middle}
 use Rattle.samoa_laws.proofs.trace.Received.{no_box}
@@ -32,54 +33,62 @@ use Rattle.samoa_laws.proofs.trace.Steps.{before, setting}
 use Rattle.samoa_laws.proofs.trace.Tables.{IsBound, table-holds}
 use Rattle.samoa_laws.proofs.trace.Worlds.{bound_stands, event_for, group_micro, group_setup, outcome_is, setup_from}
 
--- ---- nothing is asked for to be called later
-abbrev NotLater : Outcome → Type 0
-NotLater o = (called : EventId) (arg frame : List ℕ) → o ≡ Outcome.Later called arg frame → ⊥
+-- ---- no box asks for a call later
+abbrev pub NotLater : Outcome → Type 0
+NotLater (Outcome.Later event arg frame) = ⊥
+NotLater _ = ⊤
 
 quiet_now : (o : Outcome) → IsQuiet o → NotLater o
-quiet_now o q called arg frame e = subst IsQuiet e q
+quiet_now (Outcome.Done reply) q = tt
+quiet_now (Outcome.Call event arg frame) q = tt
+quiet_now (Outcome.Later event arg frame) q = q
+quiet_now (Outcome.Send to event arg frame) q = tt
+quiet_now (Outcome.Deliver arg frame) q = tt
+quiet_now (Outcome.Change change arg frame) q = tt
 
 done_now : (o : Outcome) → IsDone o → NotLater o
-done_now o d called arg frame e = subst IsDone e d
+done_now (Outcome.Done reply) d = tt
+done_now (Outcome.Call event arg frame) d = tt
+done_now (Outcome.Later event arg frame) d = d
+done_now (Outcome.Send to event arg frame) d = tt
+done_now (Outcome.Deliver arg frame) d = tt
+done_now (Outcome.Change change arg frame) d = tt
 
-call_now : (to : EventId) (a f : List ℕ) (o : Outcome) → o ≡ Outcome.Call to a f → NotLater o
-call_now to a f o is called arg frame e = let both : Outcome.Call to a f ≡ Outcome.Later called arg frame = sym is ∙ e in cc
-
-send_now : (to : Dest) (sent : EventId) (a f : List ℕ) (o : Outcome) → o ≡ Outcome.Send to sent a f → NotLater o
-send_now to sent a f o is called arg frame e = let both : Outcome.Send to sent a f ≡ Outcome.Later called arg frame = sym is ∙ e in cc
+call_now : (o : Outcome) (event : EventId) (arg frame : List ℕ) → o ≡ Outcome.Call event arg frame → NotLater o
+call_now o event arg frame is = subst NotLater (sym is) tt
 
 asks_now : (setup : Setup) (ports : List ℕ) (o : Outcome) → Asks setup ports o → NotLater o
 asks_now setup ports o (Quiet q) = quiet_now o q
-asks_now setup ports o (AtPort port i arg frame is) = call_now _ _ _ o is
+asks_now setup ports o (AtPort port i arg frame is) = call_now o _ arg frame is
 
 talks_now : (setup : Setup) (ports : List ℕ) (o : Outcome) → Talks setup ports o → NotLater o
-talks_now setup ports o (inl t) = call_now _ _ _ o t.is
+talks_now setup ports o (inl t) = call_now o _ _ _ t.is
 talks_now setup ports o (inr a) = asks_now setup ports o a
 
 link_now : (setup : Setup) (m : Moment) (o : Outcome) → LinkShape setup m o → NotLater o
-link_now setup m o (Sends a begun is) = send_now _ _ _ _ o is
-link_now setup m o (Hands a begun lt is) = call_now _ _ _ o is
+link_now setup m o (Sends a begun is) = subst NotLater (sym is) tt
+link_now setup m o (Hands a begun lt is) = call_now o _ _ _ is
 link_now setup m o (Silent q) = quiet_now o q
 
 rb_now : (setup : Setup) (m : Moment) (o : Outcome) → RbShape setup m o → NotLater o
-rb_now setup m o (Casts a begun number is) = call_now _ _ _ o is
-rb_now setup m o (Relays a begun is) = call_now _ _ _ o is
-rb_now setup m o (HandsUp i f r resumed one next two is) = call_now _ _ _ o is
+rb_now setup m o (Casts a begun number is) = call_now o _ _ _ is
+rb_now setup m o (Relays a begun is) = call_now o _ _ _ is
+rb_now setup m o (HandsUp i f r resumed one next two is) = call_now o _ _ _ is
 rb_now setup m o (Rests d) = done_now o d
 
 cons_now : (setup : Setup) (o : Outcome) → ConsSays setup o → NotLater o
 cons_now setup o (ConsNothing d) = done_now o d
-cons_now setup o (ConsTells to tag b ts m frame is) = call_now _ _ _ o is
-cons_now setup o (ConsAnnounces i m is) = call_now _ _ _ o is
-cons_now setup o (ConsDecides i m is) = call_now _ _ _ o is
+cons_now setup o (ConsTells to tag b ts m frame is) = call_now o _ _ _ is
+cons_now setup o (ConsAnnounces i m is) = call_now o _ _ _ is
+cons_now setup o (ConsDecides i m is) = call_now o _ _ _ is
 
 ab_now : (setup : Setup) (o : Outcome) → AbSays setup o → NotLater o
 ab_now setup o (AbNothing d) = done_now o d
-ab_now setup o (AbCasts m is) = call_now _ _ _ o is
-ab_now setup o (AbProposes i m is) = call_now _ _ _ o is
-ab_now setup o (AbHandsOn i m is) = call_now _ _ _ o is
+ab_now setup o (AbCasts m is) = call_now o _ _ _ is
+ab_now setup o (AbProposes i m is) = call_now o _ _ _ is
+ab_now setup o (AbHandsOn i m is) = call_now o _ _ _ is
 
-kind_now : (nodes v p : ℕ) (s : State) (m : Moment) → NotLater (kind_step (group_micro p).kind (group_setup nodes v p) s m).1
+pub kind_now : (nodes v p : ℕ) (s : State) (m : Moment) → NotLater (kind_step (group_micro p).kind (group_setup nodes v p) s m).1
 kind_now nodes v zero s m = link_now (group_setup nodes v 0) m _ (link-step (group_setup nodes v 0) s m)
 kind_now nodes v (suc zero) s m = talks_now (group_setup nodes v 1) _ _ (fd-step (group_setup nodes v 1) s m)
 kind_now nodes v (suc (suc zero)) s m = rb_now (group_setup nodes v 2) m _ (rbcast-step (group_setup nodes v 2) s m)
@@ -94,85 +103,67 @@ pub never_later : (script : Script) (exts : List Ext) → IsGroup script → (pa
     → (called : EventId) (arg frame : List ℕ) → y.outcome ≡ Outcome.Later called arg frame → ⊥
 never_later script exts group past trace y there called arg frame is =
     let b = before script exts past y trace there in
-    kind_now script.nodes y.node (micro_of y) y.old y.moment called arg frame (sym (outcome_is script exts group b.earlier y b.follows) ∙ is)
+    subst NotLater (sym (outcome_is script exts group b.earlier y b.follows) ∙ is) (kind_now script.nodes y.node (micro_of y) y.old y.moment)
 
--- ---- a port of one event is a port of a microprotocol that has it
-port_other : (n : ℕ) → 0 < n → (ports : List EventId) (port : ℕ) → Each (λ (e : EventId). e.0 ≢ n) ports → (slice_index_or ports port (record { 0 = 0 })).0 ≢ n
-port_other n lt [] port all = λ e. omega (arith, e)
-port_other n lt (e ∷ es) zero all = all.0
-port_other n lt (e ∷ es) (suc port) all = port_other n lt es port all.1
+-- ---- a port is one of a microprotocol that calls its event
+calls_at : (p : ℕ) (ports : List EventId) (port : ℕ) → Each (λ (e : EventId). In p (callers e.0)) ports
+    → ((slice_index_or ports port (event 0)).0 ≡ 0) ⊎ In p (callers (slice_index_or ports port (event 0)).0)
+calls_at p [] port all = inl refl
+calls_at p (e ∷ es) zero all = inr all.0
+calls_at p (e ∷ es) (suc port) all = calls_at p es port all.1
 
--- the microprotocol p has no port of the event n
-abbrev HasNone : ℕ → ℕ → Type 0
-HasNone n p = Each (λ (e : EventId). e.0 ≢ n) (group_micro p).ports
+ports_called : (p : ℕ) → Each (λ (e : EventId). In p (callers e.0)) (group_micro p).ports
+ports_called zero = (inl refl, (inl refl, (inl refl, (inl refl, (inl refl, tt)))))
+ports_called (suc zero) = (inl refl, (inl refl, tt))
+ports_called (suc (suc zero)) = (inr (inl refl), (inl refl, tt))
+ports_called (suc (suc (suc zero))) = (inr (inr (inl refl)), (inl refl, (inl refl, tt)))
+ports_called (suc (suc (suc (suc zero)))) = (inr (inl refl), (inl refl, (inl refl, tt)))
+ports_called (suc (suc (suc (suc (suc zero))))) = (inr (inr (inr (inl refl))), (inr (inl refl), tt))
+ports_called (suc (suc (suc (suc (suc (suc zero)))))) = (inl refl, (inl refl, tt))
+ports_called (suc (suc (suc (suc (suc (suc (suc zero))))))) = (inl refl, tt)
+ports_called (suc (suc (suc (suc (suc (suc (suc (suc p)))))))) = tt
 
--- a step of it never calls this event
-not_called : (script : Script) (exts : List Ext) → IsGroup script → (past : List HandlerStep) (y : HandlerStep) → FollowsIn script exts past y → (n : ℕ) → 0 < n
-    → HasNone n (micro_of y) → (arg frame : List ℕ) → y.outcome ≡ Outcome.Call (event n) arg frame → ⊥
-not_called script exts group past y f n lt none arg frame is =
-    let port : (port : ℕ) × (event n ≡ port_at (group_setup script.nodes y.node (micro_of y)) port) =
-    kind_port script.nodes y.node (micro_of y) y.old y.moment (event n) arg frame (sym (outcome_is script exts group past y f) ∙ is) in
-    port_other n lt (group_micro (micro_of y)).ports port.0 none (ap (λ (e : EventId). e.0) (sym port.1))
+-- a step calls the events of its microprotocol
+pub calls_own : (script : Script) (exts : List Ext) → IsGroup script → (past : List HandlerStep) (y : HandlerStep) → FollowsIn script exts past y
+    → (e : ℕ) (arg frame : List ℕ) → 1 ≤ e → y.outcome ≡ Outcome.Call (event e) arg frame → In (micro_of y) (callers e)
+calls_own script exts group past y f e arg frame le is = go (calls_at (micro_of y) (group_micro (micro_of y)).ports port.0 (ports_called (micro_of y)))
+  where
+    port : (port : ℕ) × (event e ≡ port_at (group_setup script.nodes y.node (micro_of y)) port)
+    port = kind_port script.nodes y.node (micro_of y) y.old y.moment (event e) arg frame (sym (outcome_is script exts group past y f) ∙ is)
 
--- `ab_up` is called by the two broadcasts alone, `propose` by abcast alone
-up_by : (p : ℕ) → (p ≡ 4) ⊎ (p ≡ 5) ⊎ HasNone 11 p
-up_by zero = inr (inr (omega arith, (omega arith, (omega arith, (omega arith, (omega arith, tt))))))
-up_by (suc zero) = inr (inr (omega arith, (omega arith, tt)))
-up_by (suc (suc zero)) = inr (inr (omega arith, (omega arith, tt)))
-up_by (suc (suc (suc zero))) = inr (inr (omega arith, (omega arith, (omega arith, tt))))
-up_by (suc (suc (suc (suc zero)))) = inl refl
-up_by (suc (suc (suc (suc (suc zero))))) = inr (inl refl)
-up_by (suc (suc (suc (suc (suc (suc zero)))))) = inr (inr (omega arith, (omega arith, tt)))
-up_by (suc (suc (suc (suc (suc (suc (suc zero))))))) = inr (inr (omega arith, tt))
-up_by (suc (suc (suc (suc (suc (suc (suc (suc p)))))))) = inr (inr tt)
+    at : e ≡ (port_at (group_setup script.nodes y.node (micro_of y)) port.0).0
+    at = ap (λ (a : EventId). a.0) port.1
 
-propose_by : (p : ℕ) → (p ≡ 4) ⊎ HasNone 10 p
-propose_by zero = inr (omega arith, (omega arith, (omega arith, (omega arith, (omega arith, tt)))))
-propose_by (suc zero) = inr (omega arith, (omega arith, tt))
-propose_by (suc (suc zero)) = inr (omega arith, (omega arith, tt))
-propose_by (suc (suc (suc zero))) = inr (omega arith, (omega arith, (omega arith, tt)))
-propose_by (suc (suc (suc (suc zero)))) = inl refl
-propose_by (suc (suc (suc (suc (suc zero))))) = inr (omega arith, (omega arith, tt))
-propose_by (suc (suc (suc (suc (suc (suc zero)))))) = inr (omega arith, (omega arith, tt))
-propose_by (suc (suc (suc (suc (suc (suc (suc zero))))))) = inr (omega arith, tt)
-propose_by (suc (suc (suc (suc (suc (suc (suc (suc p)))))))) = inr tt
+    go : ((port_at (group_setup script.nodes y.node (micro_of y)) port.0).0 ≡ 0) ⊎ In (micro_of y) (callers (port_at (group_setup script.nodes y.node (micro_of y)) port.0).0)
+        → In (micro_of y) (callers e)
+    go (inl none) = absurd (omega (arith, at, none))
+    go (inr i) = subst (λ (n : ℕ). In (micro_of y) (callers n)) (sym at) i
 
--- `ab_cast` is called by the replacement layer alone
-cast_by : (p : ℕ) → (p ≡ 6) ⊎ HasNone 12 p
-cast_by zero = inr (omega arith, (omega arith, (omega arith, (omega arith, (omega arith, tt)))))
-cast_by (suc zero) = inr (omega arith, (omega arith, tt))
-cast_by (suc (suc zero)) = inr (omega arith, (omega arith, tt))
-cast_by (suc (suc (suc zero))) = inr (omega arith, (omega arith, (omega arith, tt)))
-cast_by (suc (suc (suc (suc zero)))) = inr (omega arith, (omega arith, (omega arith, tt)))
-cast_by (suc (suc (suc (suc (suc zero))))) = inr (omega arith, (omega arith, tt))
-cast_by (suc (suc (suc (suc (suc (suc zero)))))) = inl refl
-cast_by (suc (suc (suc (suc (suc (suc (suc zero))))))) = inr (omega arith, tt)
-cast_by (suc (suc (suc (suc (suc (suc (suc (suc p)))))))) = inr tt
-
+-- `ab_cast` is called by the replacement layer alone, `ab_up` by the two broadcasts, `propose` by abcast
 pub calls_down : (script : Script) (exts : List Ext) → IsGroup script → (past : List HandlerStep) (y : HandlerStep) → FollowsIn script exts past y
     → (arg frame : List ℕ) → y.outcome ≡ Outcome.Call (event 12) arg frame → micro_of y ≡ 6
-calls_down script exts group past y f arg frame is = go (cast_by (micro_of y))
+calls_down script exts group past y f arg frame is = go (calls_own script exts group past y f 12 arg frame (omega arith) is)
   where
-    go : (micro_of y ≡ 6) ⊎ HasNone 12 (micro_of y) → micro_of y ≡ 6
+    go : In (micro_of y) (6 ∷ []) → micro_of y ≡ 6
     go (inl e) = e
-    go (inr none) = absurd (not_called script exts group past y f 12 (omega arith) none arg frame is)
+    go (inr none) = absurd none
 
 pub calls_up : (script : Script) (exts : List Ext) → IsGroup script → (past : List HandlerStep) (y : HandlerStep) → FollowsIn script exts past y
     → (arg frame : List ℕ) → y.outcome ≡ Outcome.Call (event 11) arg frame → (micro_of y ≡ 4) ⊎ (micro_of y ≡ 5)
-calls_up script exts group past y f arg frame is = go (up_by (micro_of y))
+calls_up script exts group past y f arg frame is = go (calls_own script exts group past y f 11 arg frame (omega arith) is)
   where
-    go : (micro_of y ≡ 4) ⊎ (micro_of y ≡ 5) ⊎ HasNone 11 (micro_of y) → (micro_of y ≡ 4) ⊎ (micro_of y ≡ 5)
+    go : In (micro_of y) (4 ∷ 5 ∷ []) → (micro_of y ≡ 4) ⊎ (micro_of y ≡ 5)
     go (inl e) = inl e
     go (inr (inl e)) = inr e
-    go (inr (inr none)) = absurd (not_called script exts group past y f 11 (omega arith) none arg frame is)
+    go (inr (inr none)) = absurd none
 
 pub proposes : (script : Script) (exts : List Ext) → IsGroup script → (past : List HandlerStep) (y : HandlerStep) → FollowsIn script exts past y
     → (arg frame : List ℕ) → y.outcome ≡ Outcome.Call (event 10) arg frame → micro_of y ≡ 4
-proposes script exts group past y f arg frame is = go (propose_by (micro_of y))
+proposes script exts group past y f arg frame is = go (calls_own script exts group past y f 10 arg frame (omega arith) is)
   where
-    go : (micro_of y ≡ 4) ⊎ HasNone 10 (micro_of y) → micro_of y ≡ 4
+    go : In (micro_of y) (4 ∷ []) → micro_of y ≡ 4
     go (inl e) = e
-    go (inr none) = absurd (not_called script exts group past y f 10 (omega arith) none arg frame is)
+    go (inr none) = absurd none
 
 -- ---- one handler stands at `ab_up`, in every table
 abbrev IsUpward : ℕ → List HandlerId → Type 0
@@ -194,44 +185,54 @@ pub upward_is : (script : Script) (exts : List Ext) → IsGroup script → (past
     → (e : EventId) → e.0 ≡ 11 → (setting f).handlers e ≡ handler 6 1 ∷ []
 upward_is script exts group past x f e is = table-holds script IsUpward (upward_bound script group) (f.before ++ f.ext ∷ []) f.ext.node.0 e.0 is
 
--- ---- no computation begins at one of the events between 8 and 13
-pub root_other : (script : Script) (exts : List Ext) → IsGroupHistory script exts → (past : List HandlerStep) (x : HandlerStep) (f : FollowsIn script exts past x)
-    → (n : ℕ) → 1 ≤ n → n ≤ 13 → (root_of script f.ext.cause).0 ≢ n
-root_other script exts history past x f n low high is = go (history.allowed f.before f.ext f.later f.admitted)
+-- ---- the root events are wire, the free ones, and that of a change
+root_outer : (script : Script) (exts : List Ext) → IsGroupHistory script exts → (past : List HandlerStep) (x : HandlerStep) (f : FollowsIn script exts past x)
+    → ((root_of script f.ext.cause).0 ≡ 0) ⊎ (14 ≤ (root_of script f.ext.cause).0)
+root_outer script exts history past x f = go (history.allowed f.before f.ext f.later f.admitted)
   where
-    event_cause : (e : ℕ) → f.ext.cause ≡ Cause.Event (event e) → e ≡ n
-    event_cause e cause = sym (ap (λ (c : Cause). (root_of script c).0) cause) ∙ is
+    Outer : ℕ → Type 0
+    Outer e = (e ≡ 0) ⊎ (14 ≤ e)
+
+    free : (e : ℕ) → 14 ≤ e → f.ext.cause ≡ Cause.Event (event e) → Outer (root_of script f.ext.cause).0
+    free e le is = inr (let same : (root_of script f.ext.cause).0 ≡ e = ap (λ (c : Cause). (root_of script c).0) is in omega arith)
 
     changed : (c : ℕ) → c < length group_changes → (get_or group_changes c no_change).event ≡ event 18
     changed zero lt = refl
     changed (suc zero) lt = refl
     changed (suc (suc c)) lt = absurd (omega arith)
 
-    rebinding : IsRebinding script f.before f.ext → ⊥
+    rebinding : IsRebinding script f.before f.ext → Outer (root_of script f.ext.cause).0
     rebinding r =
         let known : IsExtOf script f.ext = each_in (IsExtOf script) exts f.ext history.known (subst (λ (xs : List Ext). In f.ext xs) (sym f.admitted) (in_middle f.ext f.before f.later)) in
         let in_range : r.change.0 < length script.changes = subst (IsCauseOf script) r.cause known.cause in
         let lt : r.change.0 < length group_changes = subst (λ (cs : List ChangeDef). r.change.0 < length cs) history.group.changes in_range in
-        let root : root_of script f.ext.cause ≡ event 18 =
+        let is : root_of script f.ext.cause ≡ event 18 =
         ap (root_of script) r.cause ∙ (ap (λ (cs : List ChangeDef). (get_or cs r.change.0 no_change).event) history.group.changes ∙ changed r.change.0 lt) in
-        let same : ◌≡◌ {A = ℕ} 18 n = sym (ap (λ (e : EventId). e.0) root) ∙ is in
-        omega (arith, same)
+        inr (let same : (root_of script f.ext.cause).0 ≡ 18 = ap (λ (a : EventId). a.0) is in omega arith)
 
-    go : IsFree f.ext.cause ⊎ (IsWire script f.before f.ext ⊎ IsRebinding script f.before f.ext) → ⊥
-    go (inl (inl e)) = omega (arith, event_cause 14 e)
-    go (inl (inr (inl e))) = omega (arith, event_cause 15 e)
-    go (inl (inr (inr (inl e)))) = omega (arith, event_cause 16 e)
-    go (inl (inr (inr (inr (inl e))))) = omega (arith, event_cause 17 e)
-    go (inl (inr (inr (inr (inr out))))) = out
-    go (inr (inl wire)) = omega (arith, event_cause 0 wire.cause)
+    go : IsFree f.ext.cause ⊎ (IsWire script f.before f.ext ⊎ IsRebinding script f.before f.ext) → Outer (root_of script f.ext.cause).0
+    go (inl (inl is)) = free 14 (omega arith) is
+    go (inl (inr (inl is))) = free 15 (omega arith) is
+    go (inl (inr (inr (inl is)))) = free 16 (omega arith) is
+    go (inl (inr (inr (inr (inl is))))) = free 17 (omega arith) is
+    go (inl (inr (inr (inr (inr out))))) = absurd out
+    go (inr (inl wire)) = inl (ap (λ (c : Cause). (root_of script c).0) wire.cause)
     go (inr (inr r)) = rebinding r
 
+pub root_other : (script : Script) (exts : List Ext) → IsGroupHistory script exts → (past : List HandlerStep) (x : HandlerStep) (f : FollowsIn script exts past x)
+    → (n : ℕ) → 1 ≤ n → n ≤ 13 → (root_of script f.ext.cause).0 ≢ n
+root_other script exts history past x f n low high is = go (root_outer script exts history past x f)
+  where
+    go : ((root_of script f.ext.cause).0 ≡ 0) ⊎ (14 ≤ (root_of script f.ext.cause).0) → ⊥
+    go (inl none) = omega (arith, none, is, low)
+    go (inr le) = omega (arith, le, is, high)
+
 -- ---- a begin at such an event was called by a step
-stands_at : (script : Script) (exts : List Ext) → IsGroup script → (past : List HandlerStep) (x : HandlerStep) (f : FollowsIn script exts past x)
+pub stands_at : (script : Script) (exts : List Ext) → IsGroup script → (past : List HandlerStep) (x : HandlerStep) (f : FollowsIn script exts past x)
     → (e : EventId) (h : HandlerId) → In h ((setting f).handlers e) → event_for h ≡ e.0
 stands_at script exts group past x f e h bound = each_in (λ (g : HandlerId). event_for g ≡ e.0) ((setting f).handlers e) h (bound_stands script exts group past x f e) bound
 
-not_root : (script : Script) (exts : List Ext) → IsGroupHistory script exts → (past : List HandlerStep) (x : HandlerStep) (f : FollowsIn script exts past x)
+pub not_root : (script : Script) (exts : List Ext) → IsGroupHistory script exts → (past : List HandlerStep) (x : HandlerStep) (f : FollowsIn script exts past x)
     → (n : ℕ) → 1 ≤ n → n ≤ 13 → event_for x.call.handler ≡ n → IsRoot (setting f) x.call x.moment → ⊥
 not_root script exts history past x f n low high at root =
     root_other script exts history past x f n low high
@@ -250,13 +251,13 @@ pub record CalledBy (past : List HandlerStep) (x : HandlerStep) (n : ℕ) (arg :
   pub there : In by past
   pub is : IsCaller by x n arg
 
-arg_same : (i j : ℕ) (arg other : List ℕ) → Moment.Begin i arg ≡ Moment.Begin j other → arg ≡ other
+pub arg_same : (i j : ℕ) (arg other : List ℕ) → Moment.Begin i arg ≡ Moment.Begin j other → arg ≡ other
 arg_same i j arg other e = cc
 
-no_begin : (i j : ℕ) (arg frame : List ℕ) (reply : Reply) → Moment.Begin i arg ≡ Moment.Resume j frame reply → ⊥
+pub no_begin : (i j : ℕ) (arg frame : List ℕ) (reply : Reply) → Moment.Begin i arg ≡ Moment.Resume j frame reply → ⊥
 no_begin i j arg frame reply e = cc
 
-called_is : (script : Script) (exts : List Ext) → IsGroup script → (past : List HandlerStep) (x : HandlerStep) (f : FollowsIn script exts past x)
+pub called_is : (script : Script) (exts : List Ext) → IsGroup script → (past : List HandlerStep) (x : HandlerStep) (f : FollowsIn script exts past x)
     → (n : ℕ) → event_for x.call.handler ≡ n → (i : ℕ) (arg : List ℕ) → x.moment ≡ Moment.Begin i arg
     → (y : HandlerStep) → Calls (setting f) y x.call x.moment → IsCaller y x n arg
 called_is script exts group past x f n at i arg is y c =
