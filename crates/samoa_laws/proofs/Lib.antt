@@ -1,10 +1,3 @@
 pub mod lists
 pub mod trace
-pub mod order
-pub mod consensus
-pub mod agreement
-pub mod replacement
-pub mod broadcast
-pub mod stream
-pub mod group
 pub mod text

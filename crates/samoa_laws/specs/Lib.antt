@@ -1,10 +1,8 @@
 pub mod lists
 pub mod trace
-pub mod order
+pub mod transport
 pub mod consensus
-pub mod agreement
+pub mod broadcasts
 pub mod replacement
-pub mod broadcast
-pub mod stream
-pub mod group
+pub mod streams
 pub mod text

@@ -9,9 +9,9 @@ ghost use Rattle.samoa_laws.specs.trace.Trace.{trace};
 ghost use Rattle.samoa_laws.specs.replacement.Group.{IsOrdered};
 ghost use Rattle.samoa_laws.specs.replacement.History.{begin_alike};
 ghost use Rattle.samoa_laws.specs.lists.Lists.{Comparable, IsApart};
-ghost use Rattle.samoa_laws.specs.stream.Ordered.{AreSubmitted, KeepsOrder, protocol, ups_at};
-ghost use Rattle.samoa_laws.specs.stream.Streams.{repl_at, stream_at};
-ghost use Rattle.samoa_laws.specs.group.Decided.{decided_at};
+ghost use Rattle.samoa_laws.specs.streams.Ordered.{AreSubmitted, KeepsOrder, protocol, ups_at};
+ghost use Rattle.samoa_laws.specs.streams.Streams.{repl_at, stream_at};
+ghost use Rattle.samoa_laws.specs.consensus.Decided.{decided_at};
 
 /// Two decisions of one instance of consensus are equal, at any nodes, after any two first parts of the history. Of the
 /// streams that two nodes deliver one begins the other, across any number of replacements of the broadcast, also after any two

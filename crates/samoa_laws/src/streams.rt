@@ -8,8 +8,8 @@ ghost use Rattle.samoa_laws.specs.replacement.Casts.{IsRebound};
 ghost use Rattle.samoa_laws.specs.replacement.Group.{IsOrdered};
 ghost use Rattle.samoa_laws.specs.replacement.History.{GoesOn, IsHistory, begin_alike, stream};
 ghost use Rattle.samoa_laws.specs.lists.Lists.{Begins, Comparable, IsApart};
-ghost use Rattle.samoa_laws.specs.stream.Ordered.{AreSubmitted, KeepsOrder, protocol, ups_at};
-ghost use Rattle.samoa_laws.specs.stream.Streams.{repl_at, repl_setup, stream_at};
+ghost use Rattle.samoa_laws.specs.streams.Ordered.{AreSubmitted, KeepsOrder, protocol, ups_at};
+ghost use Rattle.samoa_laws.specs.streams.Streams.{repl_at, repl_setup, stream_at};
 
 /// No message stands twice in a stream: no two of it have the same origin and number.
 pub fn no_message_comes_twice()

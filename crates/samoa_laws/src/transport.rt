@@ -6,9 +6,9 @@ ghost use Rattle.samoa_model.specs.declared.ids.HandlerId.{HandlerId};
 ghost use Rattle.samoa_model.specs.declared.record.Ext.{Ext};
 ghost use Rattle.samoa_model.specs.declared.script.Script.{Script};
 ghost use Rattle.samoa_laws.specs.trace.Trace.{HandlerStep, trace};
-ghost use Rattle.samoa_laws.specs.trace.Callers.{WasCalled};
+ghost use Rattle.samoa_laws.specs.transport.Callers.{WasCalled};
 ghost use Rattle.samoa_laws.specs.trace.Group.{IsGroupHistory, event_for, handler};
-ghost use Rattle.samoa_laws.specs.trace.Transport.{BeginsAt, BeginsNext, IsCast, IsHeard, owner};
+ghost use Rattle.samoa_laws.specs.transport.Transport.{BeginsAt, BeginsNext, IsCast, IsHeard, owner};
 
 /// Each begin of a channel's receive handler has the words that the channel's microprotocol at the node `from` told in
 /// an earlier step, to this node or to all. Channel 2 is consensus, channel 3 the sequencer protocol.

@@ -13,7 +13,7 @@ ghost use Rattle.samoa_serial.specs.Report.{report_of};
 ghost use Rattle.samoa_serial.specs.Ticks.{admitted, admitted_to};
 ghost use Rattle.samoa_laws.specs.trace.Group.{IsGroup, IsGroupHistory};
 ghost use Rattle.samoa_laws.specs.lists.Lists.{Begins, Comparable, IsApart};
-ghost use Rattle.samoa_laws.specs.stream.Streams.{stream_at};
+ghost use Rattle.samoa_laws.specs.streams.Streams.{stream_at};
 ghost use Rattle.samoa_laws.specs.text.Told.{alike, told_at};
 ghost use Rattle.samoa_laws.specs.text.Deliveries.{HasNames, deliveries, texts};
 ghost use Rattle.samoa_laws.specs.text.Clause.{AppendsOneOrder, IsMute, stream_in};

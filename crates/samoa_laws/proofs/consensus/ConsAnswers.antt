@@ -9,7 +9,7 @@ use Rattle.samoa_serial.specs.declared.keys.Ballot.{Ballot}
 use Rattle.samoa_serial.specs.declared.message.Message.{Message}
 use Rattle.samoa_model.specs.declared.setup.Setup.{Setup}
 use Rattle.samoa_laws.proofs.trace.Shapes.{ConsAnnounces, ConsDecides, ConsNothing, ConsSays, ConsTells, cons-says}
-use Rattle.samoa_laws.proofs.order.Outcomes.{same_event, same_words}
+use Rattle.samoa_laws.proofs.broadcasts.Outcomes.{same_event, same_words}
 use Rattle.samoa_laws.specs.consensus.Consensus.{letter_by, announced_by, decided_by}
 
 -- the words of a tell

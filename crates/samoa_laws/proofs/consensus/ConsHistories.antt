@@ -9,8 +9,8 @@ use Rattle.samoa_serial.specs.declared.message.Message.{Message}
 use Rattle.samoa_serial.specs.declared.message.Letter.{Letter}
 use Rattle.samoa_model.specs.declared.setup.Setup.{Setup}
 use Rattle.samoa_laws.specs.lists.Lists.{In}
-use Rattle.samoa_laws.specs.order.Boxes.{left_by, noted}
-use Rattle.samoa_laws.proofs.order.Maps.{message_of_in, in_message_of}
+use Rattle.samoa_laws.specs.trace.Boxes.{left_by, noted}
+use Rattle.samoa_laws.proofs.broadcasts.Maps.{message_of_in, in_message_of}
 use Rattle.samoa_laws.specs.consensus.Consensus.{cons_opening, NodeStep, box_of, letter_by, announced_by, decided_by, letters, announced, decided, ConsMay, Follows, IsConsensus, IsSetUp, decision_of, WasProposed}
 use Rattle.samoa_laws.proofs.consensus.Majorities.{distinct_none}
 use Rattle.samoa_laws.proofs.consensus.Locked.{Backing, IsLocked, announced_agree}

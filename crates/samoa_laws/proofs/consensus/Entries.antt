@@ -12,7 +12,7 @@ use Rattle.samoa_serial.specs.ConsTable.{instance_of, empty_round, round_at}
 use Rattle.samoa_serial.specs.declared.keys.Ballot.{Ballot}
 use Rattle.samoa_serial.specs.declared.message.Instance.{Instance}
 use Rattle.samoa_laws.specs.lists.Lists.{In}
-use Rattle.samoa_laws.proofs.order.Maps.{Agrees, lookup_insert, numbers_agree}
+use Rattle.samoa_laws.proofs.broadcasts.Maps.{Agrees, lookup_insert, numbers_agree}
 
 -- ---- ballots
 abbrev pub same_ballot : Ballot → Ballot → Bool

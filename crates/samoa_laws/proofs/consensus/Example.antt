@@ -5,7 +5,7 @@ use Rattle.samoa_serial.specs.ConsTable.{cons_step}
 use Rattle.samoa_model.specs.declared.handler.Moment.{Moment}
 use Rattle.samoa_serial.specs.declared.message.Message.{Message}
 use Rattle.samoa_model.specs.declared.setup.Setup.{Setup}
-use Rattle.samoa_laws.specs.order.Boxes.{left_by}
+use Rattle.samoa_laws.specs.trace.Boxes.{left_by}
 use Rattle.samoa_laws.specs.consensus.Consensus.{cons_opening, NodeStep, box_of, announced, decided, ConsMay, Follows, IsConsensus, decision_of}
 
 abbrev setup : Setup

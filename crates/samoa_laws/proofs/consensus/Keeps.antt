@@ -16,7 +16,7 @@ use Rattle.samoa_serial.specs.declared.message.Letter.{Letter}
 use Rattle.samoa_laws.proofs.lists.Lists.{in_end, in_mapped, in_split}
 use Rattle.samoa_laws.specs.lists.Lists.{In}
 use Rattle.samoa_serial.proofs.ListLaws.{in_left}
-use Rattle.samoa_laws.proofs.order.Maps.{HasMore, with_message_is}
+use Rattle.samoa_laws.proofs.broadcasts.Maps.{HasMore, with_message_is}
 use Rattle.samoa_laws.proofs.consensus.Majorities.{majority_of, coordinator_of, distinct_end}
 use Rattle.samoa_laws.proofs.consensus.Locked.{senders, Backing, IsLocked}
 use Rattle.samoa_laws.proofs.consensus.Entries.{instance_case, instance_put, round_case, round_put, rising_insert, any_mapped, any_flipped}

@@ -13,8 +13,8 @@ use Rattle.samoa_serial.specs.declared.message.Instance.{Instance}
 use Rattle.samoa_serial.specs.declared.message.Letter.{Letter}
 use Rattle.samoa_model.specs.declared.setup.Setup.{Setup}
 use Rattle.samoa_laws.specs.lists.Lists.{In}
-use Rattle.samoa_laws.specs.order.Boxes.{left_by, noted}
-use Rattle.samoa_laws.proofs.order.Maps.{HasMore, with_message_is}
+use Rattle.samoa_laws.specs.trace.Boxes.{left_by, noted}
+use Rattle.samoa_laws.proofs.broadcasts.Maps.{HasMore, with_message_is}
 use Rattle.samoa_laws.specs.consensus.Consensus.{cons_opening, NodeStep, box_of, decided_by, decided, Follows, IsConsensus}
 
 -- what stands last in a list that something was noted in

@@ -15,7 +15,7 @@ use Rattle.samoa_serial.specs.declared.message.Letter.{Letter}
 use Rattle.samoa_model.specs.declared.setup.Setup.{Setup}
 use Rattle.samoa_laws.proofs.lists.Lists.{in_end}
 use Rattle.samoa_laws.specs.lists.Lists.{In}
-use Rattle.samoa_laws.specs.order.Boxes.{noted}
+use Rattle.samoa_laws.specs.trace.Boxes.{noted}
 use Rattle.samoa_laws.specs.consensus.Consensus.{letter_by, announced_by, decided_by}
 use Rattle.samoa_laws.proofs.consensus.Entries.{found_in, rising_finds}
 use Rattle.samoa_laws.proofs.consensus.Inv.{letter, IsPut, HasAcked, IsRound, adopted_of, last_round, IsLocal, Inv, set_at}

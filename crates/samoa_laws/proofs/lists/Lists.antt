@@ -74,6 +74,11 @@ any_in {A} p (y ∷ ys) t = go (any_in p ys) (p y) refl t
     go ih false e h =
         let r = ih h in (r.0, inr r.1, r.2)
 
+-- where a list is cut at two places, its head stands before the second or at it
+pub head_in : {A : Type 0} (x : A) (xs : List A) (ys : List A) (y : A) (zs : List A) → x ∷ xs ≡ ys ++ y ∷ zs → In x (ys ++ y ∷ [])
+head_in x xs [] y zs e = inl (let both : x ∷ xs ≡ y ∷ zs = e in cc)
+head_in x xs (w ∷ ws) y zs e = inl (let both : x ∷ xs ≡ w ∷ (ws ++ y ∷ zs) = e in cc)
+
 -- ---- beginnings
 pub begins_after : {A : Type 0} (f l m : List A) → Begins l m → Begins (f ++ l) (f ++ m)
 begins_after f l m p = record { rest = p.rest; is = ap (λ z. f ++ z) p.is ∙ sym (append_assoc f l p.rest) }

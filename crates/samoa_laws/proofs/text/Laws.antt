@@ -22,9 +22,9 @@ use Rattle.samoa_laws.specs.trace.Group.{IsGroup, IsGroupHistory}
 use Rattle.samoa_laws.proofs.trace.Admitted.{admitted_is_group_history}
 use Rattle.samoa_laws.proofs.lists.Lists.{comparable_begins, comparable_map}
 use Rattle.samoa_laws.specs.lists.Lists.{Begins, Comparable, IsApart}
-use Rattle.samoa_laws.specs.stream.Streams.{delivered_at, delivered_in, stream_at}
-use Rattle.samoa_laws.proofs.stream.Order.{comparable}
-use Rattle.samoa_laws.proofs.group.Owed.{are_submitted, keeps_order}
+use Rattle.samoa_laws.specs.streams.Streams.{delivered_at, delivered_in, stream_at}
+use Rattle.samoa_laws.proofs.streams.Order.{comparable}
+use Rattle.samoa_laws.proofs.streams.Owed.{are_submitted, keeps_order}
 use Rattle.samoa_laws.specs.text.Told.{alike, told_at}
 use Rattle.samoa_laws.specs.text.Deliveries.{HasNames, deliveries, deliveries_of, delivered_by, texts}
 use Rattle.samoa_laws.specs.text.Clause.{IsMute, TellsOneOrder, AppendsOneOrder, stream_in}

@@ -13,7 +13,7 @@ use Rattle.samoa_serial.specs.State.{ReplState}
 use Rattle.samoa_serial.specs.declared.message.Message.{Message}
 use Rattle.samoa_serial.specs.declared.message.Own.{Own}
 use Rattle.samoa_laws.specs.replacement.History.{Step, IsHistory, begun, begun_in, left_by, said, stream, words_in}
-use Rattle.samoa_laws.specs.stream.Streams.{repl_setup}
+use Rattle.samoa_laws.specs.streams.Streams.{repl_setup}
 
 -- the event and the words of a call
 abbrev pub called : Outcome → ℕ

@@ -22,14 +22,14 @@ use Rattle.samoa_laws.specs.lists.Lists.{IsApart}
 use Rattle.samoa_serial.specs.Lists.{In}
 use Rattle.samoa_laws.specs.replacement.Group.{IsOrdered, Up, messages_of}
 use Rattle.samoa_laws.specs.replacement.History.{begin_alike, left_by, said}
-use Rattle.samoa_laws.specs.stream.Ordered.{IsBroadcast, WasSubmitted, protocol, ups_at}
-use Rattle.samoa_laws.specs.stream.Streams.{repl_at, stream_at}
-use Rattle.samoa_laws.proofs.stream.Boxes.{Made, box_state, made}
-use Rattle.samoa_laws.proofs.stream.Order.{ordered}
-use Rattle.samoa_laws.proofs.stream.Submitted.{GivenBy, given_by}
-use Rattle.samoa_laws.proofs.stream.Views.{history_at}
-use Rattle.samoa_laws.proofs.stream.Words.{apart, stream_is}
-use Rattle.samoa_laws.proofs.group.Owed.{are_submitted, keeps_order}
+use Rattle.samoa_laws.specs.streams.Ordered.{IsBroadcast, WasSubmitted, protocol, ups_at}
+use Rattle.samoa_laws.specs.streams.Streams.{repl_at, stream_at}
+use Rattle.samoa_laws.proofs.streams.Boxes.{Made, box_state, made}
+use Rattle.samoa_laws.proofs.streams.Order.{ordered}
+use Rattle.samoa_laws.proofs.streams.Submitted.{GivenBy, given_by}
+use Rattle.samoa_laws.proofs.streams.Views.{history_at}
+use Rattle.samoa_laws.proofs.streams.Words.{apart, stream_is}
+use Rattle.samoa_laws.proofs.streams.Owed.{are_submitted, keeps_order}
 use Rattle.samoa_laws.specs.text.Told.{alike}
 use Rattle.samoa_laws.specs.text.Deliveries.{texts}
 use Rattle.samoa_laws.proofs.text.OwnNumbers.{IsSaid, Gives, called, call_words, history_keeps, steps_keep, stream_said}

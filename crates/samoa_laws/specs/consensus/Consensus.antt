@@ -9,7 +9,7 @@ use Rattle.samoa_serial.specs.declared.message.Message.{Message}
 use Rattle.samoa_serial.specs.declared.message.Letter.{Letter}
 use Rattle.samoa_model.specs.declared.setup.Setup.{Setup}
 use Rattle.samoa_laws.specs.lists.Lists.{In}
-use Rattle.samoa_laws.specs.order.Boxes.{BoxStep, IsStep, noted}
+use Rattle.samoa_laws.specs.trace.Boxes.{BoxStep, IsStep, noted}
 
 abbrev pub cons_opening : ConsState
 cons_opening = record { instances = []; decisions = []; rounds = [] }

@@ -1,4 +1,4 @@
-use Rattle.samoa_laws.proofs.broadcast.Agree.{is_abcast, is_abcast_box, is_seqcast, is_seqcast_box}
+use Rattle.samoa_laws.proofs.broadcasts.Agree.{is_abcast, is_abcast_box, is_seqcast, is_seqcast_box}
 use Rattle.samoa_laws.proofs.broadcasts.boxes_have_histories.Goals as goal
 
 pub returns : goal.returns

@@ -1,4 +1,4 @@
-use Rattle.samoa_laws.proofs.broadcast.Agree.{abcast_agrees, seqcast_agrees}
+use Rattle.samoa_laws.proofs.broadcasts.Agree.{abcast_agrees, seqcast_agrees}
 use Rattle.samoa_laws.proofs.broadcasts.broadcasts_agree.Goals as goal
 
 pub returns : goal.returns

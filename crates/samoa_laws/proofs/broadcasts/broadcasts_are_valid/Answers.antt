@@ -1,5 +1,5 @@
-use Rattle.samoa_laws.proofs.broadcast.Agree.{abcast_valid, begun_decided, seqcast_valid}
-use Rattle.samoa_laws.proofs.broadcast.Submitted.{proposed_submitted}
+use Rattle.samoa_laws.proofs.broadcasts.Agree.{abcast_valid, begun_decided, seqcast_valid}
+use Rattle.samoa_laws.proofs.broadcasts.Submitted.{proposed_submitted}
 use Rattle.samoa_laws.proofs.broadcasts.broadcasts_are_valid.Goals as goal
 
 pub returns : goal.returns

@@ -1,4 +1,4 @@
-use Rattle.samoa_laws.proofs.broadcast.Agree.{cast_down}
+use Rattle.samoa_laws.proofs.broadcasts.Agree.{cast_down}
 use Rattle.samoa_laws.proofs.broadcasts.casts_are_calls.Goals as goal
 
 pub returns : goal.returns

@@ -1,5 +1,5 @@
-use Rattle.samoa_laws.proofs.broadcast.Agree.{called_at_end, callers, handed_on, is_ahead}
-use Rattle.samoa_laws.proofs.broadcast.Both.{abcast_box, seqcast_box}
+use Rattle.samoa_laws.proofs.broadcasts.Agree.{called_at_end, callers, handed_on, is_ahead}
+use Rattle.samoa_laws.proofs.broadcasts.Both.{abcast_box, seqcast_box}
 use Rattle.samoa_laws.proofs.broadcasts.deliveries_are_calls.Goals as goal
 
 pub returns : goal.returns

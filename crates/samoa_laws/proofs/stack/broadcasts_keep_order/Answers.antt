@@ -1,4 +1,4 @@
-use Rattle.samoa_laws.proofs.group.Owed.{are_submitted, keeps_order}
+use Rattle.samoa_laws.proofs.streams.Owed.{are_submitted, keeps_order}
 use Rattle.samoa_laws.proofs.stack.broadcasts_keep_order.Goals as goal
 
 pub returns : goal.returns

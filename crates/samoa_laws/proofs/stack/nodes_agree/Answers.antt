@@ -1,7 +1,7 @@
-use Rattle.samoa_laws.proofs.stream.Order.{comparable, comparable_then}
-use Rattle.samoa_laws.proofs.stream.Words.{apart}
-use Rattle.samoa_laws.proofs.group.Decisions.{decisions}
-use Rattle.samoa_laws.proofs.group.Owed.{are_submitted, keeps_order}
+use Rattle.samoa_laws.proofs.streams.Order.{comparable, comparable_then}
+use Rattle.samoa_laws.proofs.streams.Words.{apart}
+use Rattle.samoa_laws.proofs.consensus.Decided.{decisions}
+use Rattle.samoa_laws.proofs.streams.Owed.{are_submitted, keeps_order}
 use Rattle.samoa_laws.proofs.stack.nodes_agree.Goals as goal
 
 pub returns : goal.returns

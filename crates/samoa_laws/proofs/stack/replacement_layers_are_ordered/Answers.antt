@@ -1,5 +1,5 @@
-use Rattle.samoa_laws.proofs.stream.Order.{ordered}
-use Rattle.samoa_laws.proofs.group.Owed.{are_submitted, keeps_order}
+use Rattle.samoa_laws.proofs.streams.Order.{ordered}
+use Rattle.samoa_laws.proofs.streams.Owed.{are_submitted, keeps_order}
 use Rattle.samoa_laws.proofs.stack.replacement_layers_are_ordered.Goals as goal
 
 pub returns : goal.returns

@@ -1,8 +1,8 @@
 use Rattle.samoa_laws.specs.trace.Trace.{trace}
 use Rattle.samoa_laws.proofs.trace.Points.{trace-is_trace}
-use Rattle.samoa_laws.proofs.stream.Rebound as bound
-use Rattle.samoa_laws.proofs.stream.Views as view
-use Rattle.samoa_laws.proofs.stream.Words as word
+use Rattle.samoa_laws.proofs.streams.Rebound as bound
+use Rattle.samoa_laws.proofs.streams.Views as view
+use Rattle.samoa_laws.proofs.streams.Words as word
 use Rattle.samoa_laws.proofs.streams.box_of_a_node.Goals as goal
 
 pub returns : goal.returns

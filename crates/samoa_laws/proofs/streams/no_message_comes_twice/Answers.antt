@@ -1,4 +1,4 @@
-use Rattle.samoa_laws.proofs.stream.Words as laws
+use Rattle.samoa_laws.proofs.streams.Words as laws
 use Rattle.samoa_laws.proofs.streams.no_message_comes_twice.Goals as goal
 
 pub returns : goal.returns

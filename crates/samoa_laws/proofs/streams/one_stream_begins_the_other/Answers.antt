@@ -1,4 +1,4 @@
-use Rattle.samoa_laws.proofs.stream.Order as laws
+use Rattle.samoa_laws.proofs.streams.Order as laws
 use Rattle.samoa_laws.proofs.streams.one_stream_begins_the_other.Goals as goal
 
 pub returns : goal.returns

@@ -1,4 +1,4 @@
-use Rattle.samoa_laws.proofs.stream.Settled as laws
+use Rattle.samoa_laws.proofs.streams.Settled as laws
 use Rattle.samoa_laws.proofs.streams.streams_grow.Goals as goal
 
 pub returns : goal.returns

@@ -1,4 +1,4 @@
-use Rattle.samoa_laws.proofs.trace.Callers.{begins_called}
+use Rattle.samoa_laws.proofs.transport.Callers.{begins_called}
 use Rattle.samoa_laws.proofs.transport.each_begin_was_called.Goals as goal
 
 pub returns : goal.returns

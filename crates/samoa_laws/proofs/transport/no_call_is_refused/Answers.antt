@@ -1,4 +1,4 @@
-use Rattle.samoa_laws.proofs.trace.Accepted.{begins_next}
+use Rattle.samoa_laws.proofs.transport.Accepted.{begins_next}
 use Rattle.samoa_laws.proofs.transport.no_call_is_refused.Goals as goal
 
 pub returns : goal.returns

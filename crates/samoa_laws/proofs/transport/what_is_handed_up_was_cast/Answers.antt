@@ -1,4 +1,4 @@
-use Rattle.samoa_laws.proofs.trace.Received.{upward}
+use Rattle.samoa_laws.proofs.transport.Received.{upward}
 use Rattle.samoa_laws.proofs.transport.what_is_handed_up_was_cast.Goals as goal
 
 pub returns : goal.returns

@@ -1,4 +1,4 @@
-use Rattle.samoa_laws.proofs.trace.Received.{heard}
+use Rattle.samoa_laws.proofs.transport.Received.{heard}
 use Rattle.samoa_laws.proofs.transport.what_is_received_was_told.Goals as goal
 
 pub returns : goal.returns

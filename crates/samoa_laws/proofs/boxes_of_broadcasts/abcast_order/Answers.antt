@@ -1,5 +1,0 @@
-use Rattle.samoa_laws.proofs.order.AbcastHistories as laws
-use Rattle.samoa_laws.proofs.boxes_of_broadcasts.abcast_order.Goals as goal
-
-pub returns : goal.returns
-returns c = record { prefix = laws.orders_agree; shape = laws.order_is; valid = laws.called_was_decided }

@@ -1,5 +1,0 @@
-use Rattle.samoa_laws.proofs.replacement.Rows as laws
-use Rattle.samoa_laws.proofs.boxes_of_replacement.hands_on.Goals as goal
-
-pub returns : goal.returns
-returns c = λ setup s moment. (laws.step_gives setup s moment).ready

@@ -1,5 +1,0 @@
-use Rattle.samoa_laws.proofs.replacement.Histories as laws
-use Rattle.samoa_laws.proofs.boxes_of_replacement.marks_what_was_handed_on.Goals as goal
-
-pub returns : goal.returns
-returns c = laws.mark_follows

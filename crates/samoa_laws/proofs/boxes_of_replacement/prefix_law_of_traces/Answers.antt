@@ -1,5 +1,0 @@
-use Rattle.samoa_laws.proofs.replacement.Groups as laws
-use Rattle.samoa_laws.proofs.boxes_of_replacement.prefix_law_of_traces.Goals as goal
-
-pub returns : goal.returns
-returns c = laws.streams_of_traces

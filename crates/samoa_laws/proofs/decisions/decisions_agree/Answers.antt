@@ -1,5 +1,0 @@
-use Rattle.samoa_laws.proofs.agreement.Agreement.{agree, standing}
-use Rattle.samoa_laws.proofs.decisions.decisions_agree.Goals as goal
-
-pub returns : goal.returns
-returns c = record { equal = agree; standing = λ script exts before history part v i m d. standing script exts history before part v i m d }
