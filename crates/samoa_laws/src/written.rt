@@ -11,6 +11,8 @@ ghost use Rattle.samoa_serial.specs.LimitedReport.{report_in_full, report_to};
 ghost use Rattle.samoa_serial.specs.Lists.{Each};
 ghost use Rattle.samoa_serial.specs.Report.{report_of};
 ghost use Rattle.samoa_serial.specs.Ticks.{admitted, admitted_to};
+ghost use Rattle.samoa_model.specs.declared.record.Step.{Step};
+ghost use Rattle.samoa_report.specs.Steps.{journal_text};
 ghost use Rattle.samoa_laws.specs.trace.Group.{IsGroup, IsGroupHistory};
 ghost use Rattle.samoa_laws.specs.lists.Lists.{Begins, Comparable, IsApart};
 ghost use Rattle.samoa_laws.specs.streams.Streams.{stream_at};
@@ -70,4 +72,10 @@ pub fn what_is_appended_agrees()
         → (status ≡ due → Appends old new (report_in_full script calls))
         → (status ≡ 5 → AppendsPrefix old new (report_in_full script calls)) → (status ≡ 6 → AppendsPrefix old new (report_in_full script calls))
         → (status ≡ 4 → Appends old new []) → (status ≡ due) ⊎ ((status ≡ 4) ⊎ ((status ≡ 5) ⊎ (status ≡ 6))) → AppendsOneOrder old new }
+{}
+
+/// The text of a journal tells nothing, of whatever steps: no line of it heads a computation or tells a delivery. So a report
+/// that a journal follows tells what the report tells.
+pub fn journals_tell_nothing()
+    ensures mute { (steps : List Step) → IsMute (journal_text steps) }
 {}
