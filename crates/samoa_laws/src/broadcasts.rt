@@ -22,7 +22,8 @@ ghost use Rattle.samoa_model.specs.declared.script.Script.{Script};
 ghost use Rattle.samoa_serial.specs.Lists.{In};
 ghost use Rattle.samoa_laws.specs.trace.Trace.{HandlerStep, trace};
 ghost use Rattle.samoa_laws.specs.trace.Group.{IsGroupHistory, handler};
-ghost use Rattle.samoa_laws.specs.broadcasts.Begun.{AreProposed, IsAheadBy, IsCastDown, IsDecided, IsHandedOn, IsPart, WasProposed, WasSubmitted, abcast_steps, begun, begun_by, seqcast_steps};
+ghost use Rattle.samoa_laws.specs.broadcasts.Begun.{AreProposed, IsAheadBy, IsCastDown, IsDecided, IsHandedOn, IsPart, WasSubmitted, abcast_steps, begun, begun_by, seqcast_steps};
+ghost use Rattle.samoa_laws.specs.consensus.Decisions.{WasProposed};
 ghost use Rattle.samoa_model.specs.declared.handler.Outcome.TheVariants as gives;
 ghost use Rattle.samoa_laws.specs.broadcasts.Seqcast as of_boxes;
 

@@ -24,7 +24,8 @@ use Rattle.samoa_laws.specs.broadcasts.Seqcast.{IsSeqcast, IsSeqcastBox, told}
 use Rattle.samoa_laws.proofs.broadcasts.AbcastHistories as abcast
 use Rattle.samoa_laws.proofs.broadcasts.SeqcastHistories as seqcast
 use Rattle.samoa_laws.specs.broadcasts.Begun.{AreProposed, IsAheadBy, IsCastDown, IsDecided, IsHandedOn, IsPart, WasSubmitted, abcast_of, abcast_steps, begun, begun_by, caller, delivered_by, seqcast_of, seqcast_steps, with_caller}
-use Rattle.samoa_laws.proofs.broadcasts.Boxes.{Box, steps-few, steps_of}
+use Rattle.samoa_laws.proofs.trace.Boxes.{steps-few, steps_of}
+use Rattle.samoa_laws.proofs.broadcasts.Boxes.{Upward}
 use Rattle.samoa_laws.proofs.broadcasts.Both.{abcast_box, seqcast_box}
 use Rattle.samoa_laws.proofs.transport.Events.{CalledAtOnce, at_once, calls_down, calls_up}
 use Rattle.samoa_laws.proofs.broadcasts.Histories.{abcast_any, abcast_history, part_trace, seqcast_any, seqcast_history, setup_is}
@@ -78,29 +79,29 @@ ahead : (called began : List Message) (o : Option Message) → called ≡ began 
 ahead called began None e = inl (e ∙ append-nil began)
 ahead called began (Some m) e = inr (m, e)
 
-pub is_ahead : {S : Type 0} (b : Box S) (script : Script) (exts : List Ext) → IsGroupHistory script exts → (v : ℕ) (past : List HandlerStep) → IsPart script exts past
-    → IsAheadBy (called_up (steps_of b v past)) (begun_by b.number v past)
+pub is_ahead : {S : Type 0} (b : Upward S) (script : Script) (exts : List Ext) → IsGroupHistory script exts → (v : ℕ) (past : List HandlerStep) → IsPart script exts past
+    → IsAheadBy (called_up (steps_of b.box v past)) (begun_by b.box.number v past)
 is_ahead b script exts history v past part =
-    ahead (called_up (steps_of b v past)) (begun_by b.number v past) (calling b v past) (called_is_begun b script exts history v past (part_trace script exts past part))
+    ahead (called_up (steps_of b.box v past)) (begun_by b.box.number v past) (calling b v past) (called_is_begun b script exts history v past (part_trace script exts past part))
 
-is_beginning : {S : Type 0} (b : Box S) (script : Script) (exts : List Ext) → IsGroupHistory script exts → (v : ℕ) (past : List HandlerStep) → IsPart script exts past
-    → Begins (begun_by b.number v past) (called_up (steps_of b v past))
+is_beginning : {S : Type 0} (b : Upward S) (script : Script) (exts : List Ext) → IsGroupHistory script exts → (v : ℕ) (past : List HandlerStep) → IsPart script exts past
+    → Begins (begun_by b.box.number v past) (called_up (steps_of b.box v past))
 is_beginning b script exts history v past part =
     record { rest = listed (calling b v past); is = called_is_begun b script exts history v past (part_trace script exts past part) }
 
-first_beginning : {S : Type 0} (b : Box S) (script : Script) (exts : List Ext) → IsGroupHistory script exts → (v : ℕ) (past : List HandlerStep) → IsPart script exts past
-    → Begins (first_places (begun_by b.number v past)) (first_places (called_up (steps_of b v past)))
+first_beginning : {S : Type 0} (b : Upward S) (script : Script) (exts : List Ext) → IsGroupHistory script exts → (v : ℕ) (past : List HandlerStep) → IsPart script exts past
+    → Begins (first_places (begun_by b.box.number v past)) (first_places (called_up (steps_of b.box v past)))
 first_beginning b script exts history v past part =
-    first_places_begin (begun_by b.number v past) (called_up (steps_of b v past)) (is_beginning b script exts history v past part)
+    first_places_begin (begun_by b.box.number v past) (called_up (steps_of b.box v past)) (is_beginning b script exts history v past part)
 
-was_called : {S : Type 0} (b : Box S) (script : Script) (exts : List Ext) → IsGroupHistory script exts → (v : ℕ) (past : List HandlerStep) → IsPart script exts past
-    → (m : Message) → In m (begun_by b.number v past) → In m (called_up (steps_of b v past))
+was_called : {S : Type 0} (b : Upward S) (script : Script) (exts : List Ext) → IsGroupHistory script exts → (v : ℕ) (past : List HandlerStep) → IsPart script exts past
+    → (m : Message) → In m (begun_by b.box.number v past) → In m (called_up (steps_of b.box v past))
 was_called b script exts history v past part m there =
     subst (λ (ms : List Message). In m ms) (sym (called_is_begun b script exts history v past (part_trace script exts past part)))
-    (in_left m (begun_by b.number v past) (listed (calling b v past)) there)
+    (in_left m (begun_by b.box.number v past) (listed (calling b v past)) there)
 
-pub called_at_end : {S : Type 0} (b : Box S) (script : Script) (exts : List Ext) → IsGroupHistory script exts → (v : ℕ)
-    → called_up (steps_of b v (trace script exts)) ≡ begun_by b.number v (trace script exts)
+pub called_at_end : {S : Type 0} (b : Upward S) (script : Script) (exts : List Ext) → IsGroupHistory script exts → (v : ℕ)
+    → called_up (steps_of b.box v (trace script exts)) ≡ begun_by b.box.number v (trace script exts)
 called_at_end b script exts history v = called_is_begun_at_end b script exts history v (trace-is_trace script exts)
 
 -- ---- one order

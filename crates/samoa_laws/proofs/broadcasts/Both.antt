@@ -19,7 +19,7 @@ use Rattle.samoa_laws.specs.broadcasts.Seqcast.{seqcast_opening}
 use Rattle.samoa_laws.proofs.broadcasts.AnswersByPort.{abcast_read, abcast_read_back, seqcast_read, seqcast_read_back}
 use Rattle.samoa_laws.proofs.broadcasts.Given.{Given, NoCall, OfCast, OfPending, Upwards, Sent, NotSent, SentCast, SentNumber, SentUp, step_fine, step_sent}
 use Rattle.samoa_laws.specs.broadcasts.Begun.{abcast_of, seqcast_of}
-use Rattle.samoa_laws.proofs.broadcasts.Boxes.{Box}
+use Rattle.samoa_laws.proofs.broadcasts.Boxes.{Upward}
 
 -- the frame of an outcome that is done or a call
 abbrev pub IsUp : List ℕ → Outcome → Type 0
@@ -50,33 +50,37 @@ sent_up setup m frame o (SentUp x k e) = call_up frame _ _ _ o e
 pub apart : (a b : ℕ) → (a ≡ b → ⊥) → event a ≡ event b → ⊥
 apart a b differ e = differ (ap (λ (x : EventId). x.0) e)
 
-abbrev pub abcast_box : Box AbcastState
+abbrev pub abcast_box : Upward AbcastState
 abcast_box = record {
-  number = 4;
-  to = OfAbcast;
-  of = abcast_of;
-  table = abcast_step;
-  start = abcast_opening;
-  back = λ s. refl;
-  state = λ nodes v s m. refl;
-  answer = λ nodes v s m. refl;
-  opens = λ nodes v. refl;
+  box = record {
+    number = 4;
+    to = OfAbcast;
+    of = abcast_of;
+    table = abcast_step;
+    start = abcast_opening;
+    back = λ s. refl;
+    state = λ nodes v s m. refl;
+    answer = λ nodes v s m. refl;
+    opens = λ nodes v. refl;
+  };
   goes_on = λ nodes v s m frame has one. given_up (group_setup nodes v 4) m frame _ (step_fine (λ (k : Message). ⊤) (group_setup nodes v 4) s m (λ k h. tt) (λ arg e tag. tt)).1 has one;
   reads = λ nodes v s m arg frame is. abcast_read (group_setup nodes v 4) s m arg frame (apart 11 8 (λ e. omega (arith, e))) (apart 11 10 (λ e. omega (arith, e))) is;
   calls = λ nodes v s m x k is. abcast_read_back (group_setup nodes v 4) s m x k is;
 }
 
-abbrev pub seqcast_box : Box SeqcastState
+abbrev pub seqcast_box : Upward SeqcastState
 seqcast_box = record {
-  number = 5;
-  to = OfSeqcast;
-  of = seqcast_of;
-  table = seqcast_step;
-  start = seqcast_opening;
-  back = λ s. refl;
-  state = λ nodes v s m. refl;
-  answer = λ nodes v s m. refl;
-  opens = λ nodes v. refl;
+  box = record {
+    number = 5;
+    to = OfSeqcast;
+    of = seqcast_of;
+    table = seqcast_step;
+    start = seqcast_opening;
+    back = λ s. refl;
+    state = λ nodes v s m. refl;
+    answer = λ nodes v s m. refl;
+    opens = λ nodes v. refl;
+  };
   goes_on = λ nodes v s m frame has one. sent_up (group_setup nodes v 5) m frame _ (step_sent (group_setup nodes v 5) s m) has one;
   reads = λ nodes v s m arg frame is. seqcast_read (group_setup nodes v 5) s m arg frame (apart 11 1 (λ e. omega (arith, e))) is;
   calls = λ nodes v s m x k is. seqcast_read_back (group_setup nodes v 5) s m x k is;

@@ -22,7 +22,8 @@ use Rattle.samoa_laws.specs.broadcasts.Abcast.{listed}
 use Rattle.samoa_laws.specs.trace.Boxes.{BoxStep, noted}
 use Rattle.samoa_laws.specs.broadcasts.Boxes.{called_up, raised, raised_by}
 use Rattle.samoa_laws.specs.broadcasts.Begun.{begun, begun_by, begun_with, caller, delivered_by, with_caller}
-use Rattle.samoa_laws.proofs.broadcasts.Boxes.{Box, made_at, own_index, steps-away, steps-here, steps_of}
+use Rattle.samoa_laws.proofs.trace.Boxes.{made_at, steps-away, steps-here, steps_of}
+use Rattle.samoa_laws.proofs.broadcasts.Boxes.{own_index, Upward}
 use Rattle.samoa_laws.proofs.transport.Events.{CalledAtOnce, at_once, upward_is}
 use Rattle.samoa_laws.proofs.broadcasts.Histories.{handler_is}
 
@@ -33,9 +34,9 @@ just (Some e) true = Some e.1
 just (Some e) false = None
 
 -- what the box at node v is just calling up: its call was the last step
-abbrev pub calling : {S : Type 0} → Box S → ℕ → List HandlerStep → Option Message
+abbrev pub calling : {S : Type 0} → Upward S → ℕ → List HandlerStep → Option Message
 calling b v [] = None
-calling b v (x ∷ past) = if v == x.node then (if b.number == micro_of x then just (raised_by x.outcome) x.effective else None) else None
+calling b v (x ∷ past) = if v == x.node then (if b.box.number == micro_of x then just (raised_by x.outcome) x.effective else None) else None
 
 -- ---- one more step adds what it calls up
 noted_messages : (us : List (ℕ × Message)) (o : Option (ℕ × Message)) (counts : Bool)
@@ -44,32 +45,32 @@ noted_messages us None counts = sym (append-nil (map (λ (e : ℕ × Message). e
 noted_messages us (Some e) true = map-append (λ (d : ℕ × Message). d.1) us (e ∷ [])
 noted_messages us (Some e) false = sym (append-nil (map (λ (d : ℕ × Message). d.1) us))
 
-calling_here : {S : Type 0} (b : Box S) (v : ℕ) (x : HandlerStep) (past : List HandlerStep) → IsAt x v b.number → calling b v (x ∷ past) ≡ just (raised_by x.outcome) x.effective
-calling_here b v x past at = rw (eq-eqb v x.node at.0) (rw (eq-eqb b.number (micro_of x) at.1) refl)
+calling_here : {S : Type 0} (b : Upward S) (v : ℕ) (x : HandlerStep) (past : List HandlerStep) → IsAt x v b.box.number → calling b v (x ∷ past) ≡ just (raised_by x.outcome) x.effective
+calling_here b v x past at = rw (eq-eqb v x.node at.0) (rw (eq-eqb b.box.number (micro_of x) at.1) refl)
 
-calling_away : {S : Type 0} (b : Box S) (v : ℕ) (x : HandlerStep) (past : List HandlerStep) → IsAway x v b.number → calling b v (x ∷ past) ≡ None
-calling_away b v x past away = go (eqb_tells v x.node) (eqb_tells b.number (micro_of x))
+calling_away : {S : Type 0} (b : Upward S) (v : ℕ) (x : HandlerStep) (past : List HandlerStep) → IsAway x v b.box.number → calling b v (x ∷ past) ≡ None
+calling_away b v x past away = go (eqb_tells v x.node) (eqb_tells b.box.number (micro_of x))
   where
     go : ((v == x.node) ≡ true) × (v ≡ x.node) ⊎ ((v == x.node) ≡ false) × (v ≢ x.node)
-        → ((b.number == micro_of x) ≡ true) × (b.number ≡ micro_of x) ⊎ ((b.number == micro_of x) ≡ false) × (b.number ≢ micro_of x)
+        → ((b.box.number == micro_of x) ≡ true) × (b.box.number ≡ micro_of x) ⊎ ((b.box.number == micro_of x) ≡ false) × (b.box.number ≢ micro_of x)
         → calling b v (x ∷ past) ≡ None
     go (inl here) (inl there) = absurd (away (here.1, there.1))
     go (inl here) (inr there) = rw here.0 (rw there.0 refl)
     go (inr here) there = rw here.0 refl
 
-called_more : {S : Type 0} (b : Box S) (v : ℕ) (x : HandlerStep) (past : List HandlerStep)
-    → called_up (steps_of b v (x ∷ past)) ≡ called_up (steps_of b v past) ++ listed (calling b v (x ∷ past))
-called_more {S} b v x past = go (at_or_away x v b.number)
+called_more : {S : Type 0} (b : Upward S) (v : ℕ) (x : HandlerStep) (past : List HandlerStep)
+    → called_up (steps_of b.box v (x ∷ past)) ≡ called_up (steps_of b.box v past) ++ listed (calling b v (x ∷ past))
+called_more {S} b v x past = go (at_or_away x v b.box.number)
   where
-    go : IsAt x v b.number ⊎ IsAway x v b.number → called_up (steps_of b v (x ∷ past)) ≡ called_up (steps_of b v past) ++ listed (calling b v (x ∷ past))
+    go : IsAt x v b.box.number ⊎ IsAway x v b.box.number → called_up (steps_of b.box v (x ∷ past)) ≡ called_up (steps_of b.box v past) ++ listed (calling b v (x ∷ past))
     go (inl at) =
-        ap (λ (ss : List (BoxStep S)). called_up ss) (steps-here b.of x past v b.number at)
-        ∙ (noted_messages (raised (steps_of b v past)) (raised_by x.outcome) x.effective
-        ∙ ap (λ (o : Option Message). called_up (steps_of b v past) ++ listed o) (sym (calling_here b v x past at)))
+        ap (λ (ss : List (BoxStep S)). called_up ss) (steps-here b.box.of x past v b.box.number at)
+        ∙ (noted_messages (raised (steps_of b.box v past)) (raised_by x.outcome) x.effective
+        ∙ ap (λ (o : Option Message). called_up (steps_of b.box v past) ++ listed o) (sym (calling_here b v x past at)))
     go (inr away) =
-        ap (λ (ss : List (BoxStep S)). called_up ss) (steps-away b.of x past v b.number away)
-        ∙ (sym (append-nil (called_up (steps_of b v past)))
-        ∙ ap (λ (o : Option Message). called_up (steps_of b v past) ++ listed o) (sym (calling_away b v x past away)))
+        ap (λ (ss : List (BoxStep S)). called_up ss) (steps-away b.box.of x past v b.box.number away)
+        ∙ (sym (append-nil (called_up (steps_of b.box v past)))
+        ∙ ap (λ (o : Option Message). called_up (steps_of b.box v past) ++ listed o) (sym (calling_away b v x past away)))
 
 -- ---- and what it begins with
 abbrev begins : ℕ → ℕ → List HandlerStep → HandlerStep → Option Message
@@ -115,16 +116,16 @@ just_some None counts m e = absurd (cc)
 just_some (Some u) true m e = record { counted = refl; number = u.0; is = let same : u.1 ≡ m = cc in ap (λ (k : Message). Some (u.0, k)) same }
 just_some (Some u) false m e = absurd (cc)
 
-calling_some : {S : Type 0} (b : Box S) (v : ℕ) (y : HandlerStep) (past : List HandlerStep) (m : Message) → calling b v (y ∷ past) ≡ Some m → Calling v b.number y m
-calling_some b v y past m e = go (at_or_away y v b.number)
+calling_some : {S : Type 0} (b : Upward S) (v : ℕ) (y : HandlerStep) (past : List HandlerStep) (m : Message) → calling b v (y ∷ past) ≡ Some m → Calling v b.box.number y m
+calling_some b v y past m e = go (at_or_away y v b.box.number)
   where
-    go : IsAt y v b.number ⊎ IsAway y v b.number → Calling v b.number y m
+    go : IsAt y v b.box.number ⊎ IsAway y v b.box.number → Calling v b.box.number y m
     go (inl at) =
         let j : Just (raised_by y.outcome) y.effective m = just_some (raised_by y.outcome) y.effective m (sym (calling_here b v y past at) ∙ e) in
         record { at = at; effective = j.counted; number = j.number; raised = j.is }
     go (inr away) = absurd (let none : None ≡ Some m = sym (calling_away b v y past away) ∙ e in cc)
 
-calling_is : {S : Type 0} (b : Box S) (v : ℕ) (y : HandlerStep) (past : List HandlerStep) (n : ℕ) (m : Message) → IsAt y v b.number → y.effective ≡ true → raised_by y.outcome ≡ Some (n, m)
+calling_is : {S : Type 0} (b : Upward S) (v : ℕ) (y : HandlerStep) (past : List HandlerStep) (n : ℕ) (m : Message) → IsAt y v b.box.number → y.effective ≡ true → raised_by y.outcome ≡ Some (n, m)
     → calling b v (y ∷ past) ≡ Some m
 calling_is b v y past n m at effective is =
     calling_here b v y past at
@@ -180,28 +181,28 @@ begins_some p v past x m e = go (caller past == p) refl e
     go false is same = absurd (let none : None ≡ Some m = same in cc)
 
 -- what begins was just called up
-was_calling : {S : Type 0} (b : Box S) (script : Script) (exts : List Ext) → IsGroupHistory script exts → (v : ℕ) (past : List HandlerStep) → IsTrace script exts past
-    → (x : HandlerStep) (f : FollowsIn script exts past x) → (m : Message) → begins b.number v past x ≡ Some m → calling b v past ≡ Some m
+was_calling : {S : Type 0} (b : Upward S) (script : Script) (exts : List Ext) → IsGroupHistory script exts → (v : ℕ) (past : List HandlerStep) → IsTrace script exts past
+    → (x : HandlerStep) (f : FollowsIn script exts past x) → (m : Message) → begins b.box.number v past x ≡ Some m → calling b v past ≡ Some m
 was_calling b script exts history v past trace x f m e =
-    let both : (caller past ≡ b.number) × (delivered_by v x ≡ Some m) = begins_some b.number v past x m e in
+    let both : (caller past ≡ b.box.number) × (delivered_by v x ≡ Some m) = begins_some b.box.number v past x m e in
     let d : Delivers v x m = delivered_some v x m both.1 in
     let c : CalledAtOnce past x 11 d.arg =
     at_once script exts history past trace x f 11 (omega arith) (omega arith) (λ e. omega (arith, e)) (ap event_for (delivers_handler script exts past x f v m d)) 1 d.arg d.moment in
     let t : IsTrace script exts (c.by ∷ c.earlier) = subst (IsTrace script exts) c.split trace in
-    let at : IsAt c.by v b.number = (sym d.node ∙ sym c.is.node, sym both.0 ∙ ap caller c.split) in
-    let made = made_at b script exts history.group v c.earlier t.1 c.by t.0 at in
+    let at : IsAt c.by v b.box.number = (sym d.node ∙ sym c.is.node, sym both.0 ∙ ap caller c.split) in
+    let made = made_at b.box script exts history.group v c.earlier t.1 c.by t.0 at in
     ap (calling b v) c.split
     ∙ (calling_is b v c.by c.earlier (word c.is.frame 1) (message_at d.arg 0) at c.is.effective
     (ap raised_by made.outcome ∙ b.reads script.nodes v _ c.by.moment d.arg c.is.frame (sym made.outcome ∙ c.is.outcome))
     ∙ ap (λ (k : Message). Some k) d.message)
 
 -- what is just called up begins next
-begins_next : {S : Type 0} (b : Box S) (script : Script) (exts : List Ext) → IsGroupHistory script exts → (v : ℕ) (past : List HandlerStep) → IsTrace script exts past
-    → (x : HandlerStep) (f : FollowsIn script exts past x) → (m : Message) → calling b v past ≡ Some m → begins b.number v past x ≡ Some m
+begins_next : {S : Type 0} (b : Upward S) (script : Script) (exts : List Ext) → IsGroupHistory script exts → (v : ℕ) (past : List HandlerStep) → IsTrace script exts past
+    → (x : HandlerStep) (f : FollowsIn script exts past x) → (m : Message) → calling b v past ≡ Some m → begins b.box.number v past x ≡ Some m
 begins_next b script exts history v [] trace x f m e = absurd (cc)
 begins_next b script exts history v (y ∷ past) trace x f m e =
-    let c : Calling v b.number y m = calling_some b v y past m e in
-    let made = made_at b script exts history.group v past trace.1 y trace.0 c.at in
+    let c : Calling v b.box.number y m = calling_some b v y past m e in
+    let made = made_at b.box script exts history.group v past trace.1 y trace.0 c.at in
     let is : y.outcome ≡ Outcome.Call (event 11) (message_words m) (1 ∷ c.number ∷ []) =
     made.outcome ∙ b.calls script.nodes v _ y.moment c.number m (sym (ap raised_by made.outcome) ∙ c.raised) in
     let next : IsNext (setting f) y x.call x.moment = goes_on_at_once script exts y past x f c.effective (ap is_done is) in
@@ -211,19 +212,19 @@ begins_next b script exts history v (y ∷ past) trace x f m e =
     let handler_of : x.call.handler ≡ handler 6 1 = cc in
     let node : x.node ≡ v = f.follows.node ∙ (sym next.acts.node ∙ sym c.at.0) in
     let moment : x.moment ≡ Moment.Begin 1 (message_words m) = first.moment ∙ ap (λ (h : HandlerId). Moment.Begin h.index (message_words m)) handler_of in
-    ap (λ (b : Bool). if b then delivered_by v x else None) (eq-eqb (micro_of y) b.number (sym c.at.1))
+    ap (λ (b : Bool). if b then delivered_by v x else None) (eq-eqb (micro_of y) b.box.number (sym c.at.1))
     ∙ delivered_is v x (message_words m) node (ap (λ (h : HandlerId). h.micro.0) handler_of) moment
 
 -- ---- at any point: what a box called up began, but for a call that is the last step
-pub called_is_begun : {S : Type 0} (b : Box S) (script : Script) (exts : List Ext) → IsGroupHistory script exts → (v : ℕ) (past : List HandlerStep) → IsTrace script exts past
-    → called_up (steps_of b v past) ≡ begun_by b.number v past ++ listed (calling b v past)
+pub called_is_begun : {S : Type 0} (b : Upward S) (script : Script) (exts : List Ext) → IsGroupHistory script exts → (v : ℕ) (past : List HandlerStep) → IsTrace script exts past
+    → called_up (steps_of b.box v past) ≡ begun_by b.box.number v past ++ listed (calling b v past)
 called_is_begun b script exts history v [] trace = refl
 called_is_begun b script exts history v (x ∷ past) trace =
-    let ih : called_up (steps_of b v past) ≡ begun_by b.number v past ++ listed (calling b v past) = called_is_begun b script exts history v past trace.1 in
-    let same : begins b.number v past x ≡ calling b v past =
-    same_option (begins b.number v past x) (calling b v past) (was_calling b script exts history v past trace.1 x trace.0) (begins_next b script exts history v past trace.1 x trace.0) in
-    let now : begun_by b.number v (x ∷ past) ≡ begun_by b.number v past ++ listed (calling b v past) =
-    begun_more b.number v x past ∙ ap (λ (o : Option Message). begun_by b.number v past ++ listed o) same in
+    let ih : called_up (steps_of b.box v past) ≡ begun_by b.box.number v past ++ listed (calling b v past) = called_is_begun b script exts history v past trace.1 in
+    let same : begins b.box.number v past x ≡ calling b v past =
+    same_option (begins b.box.number v past x) (calling b v past) (was_calling b script exts history v past trace.1 x trace.0) (begins_next b script exts history v past trace.1 x trace.0) in
+    let now : begun_by b.box.number v (x ∷ past) ≡ begun_by b.box.number v past ++ listed (calling b v past) =
+    begun_more b.box.number v x past ∙ ap (λ (o : Option Message). begun_by b.box.number v past ++ listed o) same in
     called_more b v x past ∙ ap (λ (ms : List Message). ms ++ listed (calling b v (x ∷ past))) (ih ∙ sym now)
 
 -- ---- at a boundary
@@ -235,17 +236,17 @@ not_done (Outcome.Send to sent arg frame) e raised done = cc
 not_done (Outcome.Deliver arg frame) e raised done = cc
 not_done (Outcome.Change change arg frame) e raised done = cc
 
-ended_calling : {S : Type 0} (b : Box S) (v : ℕ) (past : List HandlerStep) → EndsWell past → calling b v past ≡ None
+ended_calling : {S : Type 0} (b : Upward S) (v : ℕ) (past : List HandlerStep) → EndsWell past → calling b v past ≡ None
 ended_calling b v [] ended = refl
 ended_calling b v (x ∷ past) ended = go (calling b v (x ∷ past)) refl
   where
     go : (o : Option Message) → calling b v (x ∷ past) ≡ o → o ≡ None
     go None e = refl
-    go (Some m) e = let c : Calling v b.number x m = calling_some b v x past m e in absurd (not_done x.outcome (c.number, m) c.raised (ended c.effective))
+    go (Some m) e = let c : Calling v b.box.number x m = calling_some b v x past m e in absurd (not_done x.outcome (c.number, m) c.raised (ended c.effective))
 
-pub called_is_begun_at_end : {S : Type 0} (b : Box S) (script : Script) (exts : List Ext) → IsGroupHistory script exts → (v : ℕ) → IsTrace script exts (trace script exts)
-    → called_up (steps_of b v (trace script exts)) ≡ begun_by b.number v (trace script exts)
+pub called_is_begun_at_end : {S : Type 0} (b : Upward S) (script : Script) (exts : List Ext) → IsGroupHistory script exts → (v : ℕ) → IsTrace script exts (trace script exts)
+    → called_up (steps_of b.box v (trace script exts)) ≡ begun_by b.box.number v (trace script exts)
 called_is_begun_at_end b script exts history v t =
     called_is_begun b script exts history v (trace script exts) t
-    ∙ (ap (λ (o : Option Message). begun_by b.number v (trace script exts) ++ listed o) (ended_calling b v (trace script exts) (point script exts).ended)
-    ∙ append-nil (begun_by b.number v (trace script exts)))
+    ∙ (ap (λ (o : Option Message). begun_by b.box.number v (trace script exts) ++ listed o) (ended_calling b v (trace script exts) (point script exts).ended)
+    ∙ append-nil (begun_by b.box.number v (trace script exts)))

@@ -27,8 +27,10 @@ use Rattle.samoa_laws.specs.broadcasts.Abcast.{AbcastMay, IsAbcast, IsAbcastBox}
 use Rattle.samoa_laws.specs.broadcasts.Seqcast.{IsSeqcast, IsSeqcastBox, SeqcastMay, told, told_by}
 use Rattle.samoa_laws.proofs.broadcasts.AnswersByPort.{told_read}
 use Rattle.samoa_laws.proofs.broadcasts.NumbersKeep.{elsewhere_nothing}
-use Rattle.samoa_laws.specs.broadcasts.Begun.{IsDecided, IsPart, abcast_steps, box_step, seqcast_of, seqcast_steps}
-use Rattle.samoa_laws.proofs.broadcasts.Boxes.{Box, Made, MayCome, in_box, is_history, made_at, noted_new, own_index, resumed, steps_of}
+use Rattle.samoa_laws.specs.broadcasts.Begun.{IsDecided, IsPart, abcast_steps, seqcast_of, seqcast_steps}
+use Rattle.samoa_laws.specs.trace.Boxes.{box_step}
+use Rattle.samoa_laws.proofs.trace.Boxes.{Made, MayCome, in_box, is_history, made_at, steps_of}
+use Rattle.samoa_laws.proofs.broadcasts.Boxes.{noted_new, own_index, resumed, Upward}
 use Rattle.samoa_laws.proofs.broadcasts.Both.{abcast_box, apart, seqcast_box}
 
 pub part_trace : (script : Script) (exts : List Ext) (past : List HandlerStep) → IsPart script exts past → IsTrace script exts past
@@ -41,15 +43,15 @@ pub handler_is : (h : HandlerId) (p i : ℕ) → h.micro.0 ≡ p → h.index ≡
 handler_is h p i a b = ap (λ (q : ℕ). handler q h.index) a ∙ ap (λ (j : ℕ). handler p j) b
 
 -- what a step of a box in the trace did
-pub record MadeThere {S : Type 0} (b : Box S) (nodes v : ℕ) (x : HandlerStep) : Type 0 where
+pub record MadeThere {S : Type 0} (b : Upward S) (nodes v : ℕ) (x : HandlerStep) : Type 0 where
   pub found : S
-  pub made : Made b nodes v found x
+  pub made : Made b.box nodes v found x
 
-pub made_there : {S : Type 0} (b : Box S) (script : Script) (exts : List Ext) → IsGroup script → (v : ℕ) (past : List HandlerStep) → IsTrace script exts past
-    → (x : HandlerStep) → In x past → IsAt x v b.number → MadeThere b script.nodes v x
+pub made_there : {S : Type 0} (b : Upward S) (script : Script) (exts : List Ext) → IsGroup script → (v : ℕ) (past : List HandlerStep) → IsTrace script exts past
+    → (x : HandlerStep) → In x past → IsAt x v b.box.number → MadeThere b script.nodes v x
 made_there b script exts group v past trace x there at =
     let f = before script exts past x trace there in
-    record { found = left_by b.start (steps_of b v f.earlier); made = made_at b script exts group v f.earlier f.is_trace x f.follows at }
+    record { found = left_by b.box.start (steps_of b.box v f.earlier); made = made_at b.box script exts group v f.earlier f.is_trace x f.follows at }
 
 -- where a step of a part begins a handler
 begins_at : (script : Script) (exts : List Ext) (past : List HandlerStep) → IsPart script exts past → (more : List HandlerStep) (x : HandlerStep) (earlier : List HandlerStep)
@@ -66,7 +68,7 @@ begins_at script exts past part more x earlier split f v p at i j arg is same = 
 
 -- ---- abcast
 abcast_may : (decision : ℕ → Option Message) (script : Script) (exts : List Ext) → IsGroup script → (v : ℕ) (past : List HandlerStep) → IsPart script exts past
-    → IsDecided script exts decision → MayCome abcast_box script exts v (AbcastMay decision) past
+    → IsDecided script exts decision → MayCome abcast_box.box script exts v (AbcastMay decision) past
 abcast_may decision script exts group v past part decided more x earlier split t f at = go x.moment refl
   where
     go : (m : Moment) → x.moment ≡ m → AbcastMay decision (abcast_steps v earlier) m
@@ -76,16 +78,16 @@ abcast_may decision script exts group v past part decided more x earlier split t
 pub abcast_history : (decision : ℕ → Option Message) (script : Script) (exts : List Ext) → IsGroup script → (v : ℕ) (past : List HandlerStep) → IsPart script exts past
     → IsDecided script exts decision → IsAbcast (group_setup script.nodes v 4) decision (abcast_steps v past)
 abcast_history decision script exts group v past part decided =
-    is_history abcast_box script exts group v (AbcastMay decision) past (part_trace script exts past part) (abcast_may decision script exts group v past part decided)
+    is_history abcast_box.box script exts group v (AbcastMay decision) past (part_trace script exts past part) (abcast_may decision script exts group v past part decided)
 
 pub abcast_any : (script : Script) (exts : List Ext) → IsGroup script → (v : ℕ) (past : List HandlerStep) → IsTrace script exts past
     → IsAbcastBox (group_setup script.nodes v 4) (abcast_steps v past)
-abcast_any script exts group v past trace = is_history abcast_box script exts group v Anything past trace (λ more x earlier split t f at. tt)
+abcast_any script exts group v past trace = is_history abcast_box.box script exts group v Anything past trace (λ more x earlier split t f at. tt)
 
 -- ---- seqcast
 pub seqcast_any : (script : Script) (exts : List Ext) → IsGroup script → (v : ℕ) (past : List HandlerStep) → IsTrace script exts past
     → IsSeqcastBox (group_setup script.nodes v 5) (seqcast_steps v past)
-seqcast_any script exts group v past trace = is_history seqcast_box script exts group v Anything past trace (λ more x earlier split t f at. tt)
+seqcast_any script exts group v past trace = is_history seqcast_box.box script exts group v Anything past trace (λ more x earlier split t f at. tt)
 
 told_more : (ts : List (ℕ × Message)) (o : Option (ℕ × Message)) (e : ℕ × Message) → In e ts → In e (noted ts o true)
 told_more ts None e i = i
@@ -154,7 +156,7 @@ seq_heard script exts history past v arg begins =
     }
 
 seqcast_may : (script : Script) (exts : List Ext) → IsGroupHistory script exts → (v : ℕ) (past : List HandlerStep) → IsPart script exts past
-    → MayCome seqcast_box script exts v (SeqcastMay (told (seqcast_steps 0 (trace script exts)))) past
+    → MayCome seqcast_box.box script exts v (SeqcastMay (told (seqcast_steps 0 (trace script exts)))) past
 seqcast_may script exts history v past part more x earlier split t f at = go x.moment refl
   where
     numbers : List (ℕ × Message)
@@ -181,5 +183,5 @@ seqcast_may script exts history v past part more x earlier split t f at = go x.m
 pub seqcast_history : (script : Script) (exts : List Ext) → IsGroupHistory script exts → (v : ℕ) (past : List HandlerStep) → IsPart script exts past
     → IsSeqcast (group_setup script.nodes v 5) (told (seqcast_steps 0 (trace script exts))) (seqcast_steps v past)
 seqcast_history script exts history v past part =
-    is_history seqcast_box script exts history.group v (SeqcastMay (told (seqcast_steps 0 (trace script exts)))) past (part_trace script exts past part)
+    is_history seqcast_box.box script exts history.group v (SeqcastMay (told (seqcast_steps 0 (trace script exts)))) past (part_trace script exts past part)
     (seqcast_may script exts history v past part)

@@ -21,8 +21,11 @@ use Rattle.samoa_laws.specs.broadcasts.Boxes.{WasCast}
 use Rattle.samoa_laws.specs.broadcasts.Abcast.{WasHeard}
 use Rattle.samoa_laws.specs.broadcasts.Seqcast as sequencer
 use Rattle.samoa_laws.proofs.broadcasts.BoxSubmitted.{broadcasts_cast, proposes_heard, submits_cast}
-use Rattle.samoa_laws.specs.broadcasts.Begun.{IsPart, WasProposed, WasSubmitted, abcast_of, abcast_steps, box_step, box_steps, seqcast_of, seqcast_steps}
-use Rattle.samoa_laws.proofs.broadcasts.Boxes.{FromTrace, from_box, in_box, own_index}
+use Rattle.samoa_laws.specs.broadcasts.Begun.{IsPart, WasSubmitted, abcast_of, abcast_steps, seqcast_of, seqcast_steps}
+use Rattle.samoa_laws.specs.trace.Boxes.{box_step, box_steps}
+use Rattle.samoa_laws.specs.consensus.Decisions.{WasProposed}
+use Rattle.samoa_laws.proofs.trace.Boxes.{FromTrace, from_box, in_box}
+use Rattle.samoa_laws.proofs.broadcasts.Boxes.{own_index}
 use Rattle.samoa_laws.proofs.broadcasts.Both.{apart}
 use Rattle.samoa_laws.proofs.transport.Events.{CalledBy, called, proposes}
 use Rattle.samoa_laws.proofs.broadcasts.Histories.{SeqHeard, abcast_any, handler_is, part_trace, seq_heard, seqcast_any}

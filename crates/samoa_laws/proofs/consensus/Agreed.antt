@@ -30,7 +30,7 @@ use Rattle.samoa_laws.proofs.consensus.Passed.{noted_old, passed_on}
 use Rattle.samoa_laws.specs.consensus.AtBoxes.{cons_of, cons_setup, cons_steps, node_step}
 use Rattle.samoa_laws.specs.consensus.Decisions.{HasDecided, WasProposed, decision}
 use Rattle.samoa_laws.proofs.consensus.Begins.{begins_at}
-use Rattle.samoa_laws.proofs.consensus.BoxHistories.{cons_kind, node_steps-append, node_steps-in, state_is}
+use Rattle.samoa_laws.proofs.consensus.BoxHistories.{node_steps-append, node_steps-in, state_is}
 use Rattle.samoa_laws.proofs.consensus.ConsTrace.{cons_history, decided-in, decision-read, is_consensus, says, set_up}
 
 -- what was decided stays decided
@@ -56,7 +56,7 @@ box_decided script exts history before part v i m d =
     let x : Extends script before part.rest = trace-extends script before part.rest in
     let whole : trace script exts ≡ x.more ++ trace script before = ap (λ (xs : List Ext). trace script xs) part.is ∙ x.is in
     let left : ConsState = left_by cons_opening (box_of (cons_steps (trace script before)) v) in
-    let found : OfCons d.state ≡ OfCons left = sym d.found ∙ (p.found v 3 ∙ state_is cons_kind script exts history.group (trace script before) p.fact v) in
+    let found : OfCons d.state ≡ OfCons left = sym d.found ∙ (p.found v 3 ∙ state_is script exts history.group (trace script before) p.fact v) in
     let same : d.state ≡ left = cc in
     let there : In (i, m) (decided (cons_steps (trace script before))) =
     passed_on script.nodes (cons_setup script) (cons_steps (trace script before)) (is_consensus script exts history x.more (trace script before) whole p.fact) v i m

@@ -29,7 +29,7 @@ use Rattle.samoa_laws.specs.consensus.Consensus.{ConsMay, IsConsensus, IsSetUp, 
 use Rattle.samoa_laws.proofs.consensus.Passed.{noted_new, noted_old}
 use Rattle.samoa_laws.specs.consensus.AtBoxes.{cons_of, cons_setup, cons_steps, node_step}
 use Rattle.samoa_laws.proofs.consensus.Begins.{begins_at}
-use Rattle.samoa_laws.proofs.consensus.BoxHistories.{cons_kind, is_step, node_steps-in}
+use Rattle.samoa_laws.proofs.consensus.BoxHistories.{is_step, node_steps-in}
 
 -- ---- what a step said stands in the lists
 pub letter-in : (steps : List (NodeStep ConsState)) (s : NodeStep ConsState) (l : Letter) → In s steps → letter_by s.node s.step.outcome ≡ Some l → In l (letters steps)
@@ -180,7 +180,7 @@ is_consensus script exts history more (x ∷ past) split trace =
         subst (λ (b : Bool). IsConsensus script.nodes (cons_setup script) (if b then node_step cons_of x ∷ cons_steps past else cons_steps past)) (sym at.0) (
           record {
             node = node_small script exts history past x trace.0;
-            step = is_step cons_kind script exts history.group past trace.1 x trace.0 at.1;
+            step = is_step script exts history.group past trace.1 x trace.0 at.1;
             comes = may script exts history more x past split trace.1 trace.0 at.1;
           },
           ih,

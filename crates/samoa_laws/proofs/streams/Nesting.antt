@@ -23,7 +23,8 @@ use Rattle.samoa_laws.specs.replacement.History.{left_by}
 use Rattle.samoa_laws.specs.replacement.Trace.{carried}
 use Rattle.samoa_laws.proofs.replacement.Traces.{switch_calls}
 use Rattle.samoa_laws.specs.streams.Streams.{repl_setup, repl_at, repl_step_of}
-use Rattle.samoa_laws.proofs.streams.Boxes.{Made, Repl_away, Repl_here, box_state, here_or_away, made, test_here}
+use Rattle.samoa_laws.proofs.trace.Boxes.{IsElsewhere, IsHere, here_or_away, test_here}
+use Rattle.samoa_laws.proofs.streams.Boxes.{Made, box_state, made}
 use Rattle.samoa_laws.proofs.streams.Down.{Down, DownCasts, DownSubmits, below_down, down_calls, down_goes_on, not_repl}
 use Rattle.samoa_laws.proofs.streams.Listed.{listed}
 use Rattle.samoa_laws.proofs.streams.Views.{carried_is, resumes, step-index}
@@ -31,9 +32,9 @@ use Rattle.samoa_laws.proofs.streams.Views.{carried_is, resumes, step-index}
 -- steps elsewhere leave the history of the box as it is
 pub repl_at-passes : (v : ℕ) (steps past : List HandlerStep) → Each (λ (z : HandlerStep). micro_of z ≢ 6) steps → repl_at v (steps ++ past) ≡ repl_at v past
 repl_at-passes v [] past all = refl
-repl_at-passes v (z ∷ steps) past all = go (here_or_away v z) (repl_at-passes v steps past all.1)
+repl_at-passes v (z ∷ steps) past all = go (here_or_away v 6 z) (repl_at-passes v steps past all.1)
   where
-    go : Repl_here v z ⊎ Repl_away v z → repl_at v (steps ++ past) ≡ repl_at v past → repl_at v (z ∷ (steps ++ past)) ≡ repl_at v past
+    go : IsHere v 6 z ⊎ IsElsewhere v 6 z → repl_at v (steps ++ past) ≡ repl_at v past → repl_at v (z ∷ (steps ++ past)) ≡ repl_at v past
     go (inl here) ih = absurd (all.0 (sym here.at.1))
     go (inr away) ih = ap (λ (b : Bool). if b then repl_step_of z ∷ repl_at v (steps ++ past) else repl_at v (steps ++ past)) away.test ∙ ih
 
@@ -144,5 +145,5 @@ called_on script exts group v past x trace f at frame reply e =
     let is : repl_at v past ≡ repl_step_of s.last ∷ repl_at v s.earlier =
     ap (λ (zs : List HandlerStep). repl_at v zs) s.split
     ∙ (repl_at-passes v s.since (s.last ∷ s.earlier) s.alone
-    ∙ ap (λ (b : Bool). if b then repl_step_of s.last ∷ repl_at v s.earlier else repl_at v s.earlier) (test_here v s.last s.at)) in
+    ∙ ap (λ (b : Bool). if b then repl_step_of s.last ∷ repl_at v s.earlier else repl_at v s.earlier) (test_here v 6 s.last s.at)) in
     subst CalledOn (sym is) (s.index, port_at (repl_setup script v) 0, s.arg, s.frame, s.calls)

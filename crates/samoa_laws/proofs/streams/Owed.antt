@@ -23,9 +23,7 @@ pub is_decided : (script : Script) (exts : List Ext) → IsGroupHistory script e
 is_decided script exts history past node arg begins = given_decision script exts history past node arg begins
 
 pub are_proposed : (script : Script) (exts : List Ext) → IsGroupHistory script exts → AreProposed script exts (decision script exts)
-are_proposed script exts history i m is =
-    let p : agreed.WasProposed script exts i m = valid script exts history i m is in
-    record { node = p.node; arg = p.arg; past = p.past; begins = p.begins; instance = p.instance; message = p.message }
+are_proposed script exts history i m is = valid script exts history i m is
 
 -- ---- order
 pub keeps_order : (script : Script) (exts : List Ext) → IsGroupHistory script exts → KeepsOrder script exts

@@ -17,7 +17,7 @@ use Rattle.samoa_laws.specs.replacement.Casts.{IsRebound, MaySwitch, begins_swit
 use Rattle.samoa_laws.specs.replacement.History.{asked}
 use Rattle.samoa_laws.specs.streams.Streams.{is_repl, repl_at, repl_step_of}
 use Rattle.samoa_laws.proofs.streams.Askings.{asked_is, pair}
-use Rattle.samoa_laws.proofs.streams.Boxes.{is_here}
+use Rattle.samoa_laws.proofs.trace.Boxes.{is_here}
 use Rattle.samoa_laws.proofs.streams.Nesting.{called_on}
 use Rattle.samoa_laws.proofs.streams.Switches.{SwitchBegin, is_rebinding, switch_begin, switch_count}
 
@@ -86,5 +86,5 @@ rebound_at script exts history v [] t = tt
 rebound_at script exts history v (x ∷ past) t = go (is_repl v x) refl (rebound_at script exts history v past t.1)
   where
     go : (b : Bool) → is_repl v x ≡ b → IsRebound (repl_at v past) → IsRebound (if b then repl_step_of x ∷ repl_at v past else repl_at v past)
-    go true e ih = (may_switch script exts history v past x t.1 t.0 (is_here v x e) x.moment refl, ih)
+    go true e ih = (may_switch script exts history v past x t.1 t.0 (is_here v 6 x e) x.moment refl, ih)
     go false e ih = ih

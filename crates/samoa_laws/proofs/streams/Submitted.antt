@@ -31,7 +31,8 @@ use Rattle.samoa_laws.proofs.replacement.Casts.{casts_down, switches_count}
 use Rattle.samoa_laws.specs.streams.Ordered.{in_place}
 use Rattle.samoa_laws.specs.streams.Streams.{repl_setup, repl_at, repl_state, repl_step_of}
 use Rattle.samoa_laws.proofs.streams.Bound.{cast_bound}
-use Rattle.samoa_laws.proofs.streams.Boxes.{Made, box_state, made, test_here}
+use Rattle.samoa_laws.proofs.trace.Boxes.{test_here}
+use Rattle.samoa_laws.proofs.streams.Boxes.{Made, box_state, made}
 use Rattle.samoa_laws.proofs.transport.Events.{calls_down, never_later, root_other}
 use Rattle.samoa_laws.proofs.streams.Rebound.{rebound_at}
 use Rattle.samoa_laws.proofs.streams.Switches.{rebinding_root, switch_count_in}
@@ -183,7 +184,7 @@ of_epoch script exts history past y t small f six e arg frame out twelve = recor
     m = made script exts history.group w past y f at (box_state script exts history.group w past t.1)
 
     is : repl_at w (y ∷ past) ≡ repl_step_of y ∷ repl_at w past
-    is = ap (λ (b : Bool). if b then repl_step_of y ∷ repl_at w past else repl_at w past) (test_here w y at)
+    is = ap (λ (b : Bool). if b then repl_step_of y ∷ repl_at w past else repl_at w past) (test_here w 6 y at)
 
     steps : IsHistory (repl_setup script w) (repl_at w (y ∷ past))
     steps = history_at script exts history.group w (y ∷ past) t

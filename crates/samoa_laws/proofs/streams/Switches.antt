@@ -26,7 +26,7 @@ use Rattle.samoa_laws.proofs.trace.Steps.{Before, IsAt, before, same_admission, 
 use Rattle.samoa_laws.proofs.trace.Worlds.{bound_stands, event_for, outcome_is}
 use Rattle.samoa_laws.specs.replacement.Casts.{begins_switch, handler_of, switches}
 use Rattle.samoa_laws.specs.streams.Streams.{is_repl, repl_at, repl_step_of}
-use Rattle.samoa_laws.proofs.streams.Boxes.{Repl_away, Repl_here, here_or_away, test_here}
+use Rattle.samoa_laws.proofs.trace.Boxes.{IsElsewhere, IsHere, here_or_away, test_here}
 use Rattle.samoa_laws.proofs.streams.Listed.{listed, listed_of}
 use Rattle.samoa_laws.proofs.streams.Opened.{adds_some}
 use Rattle.samoa_laws.proofs.streams.Outlets.{port_no_switch}
@@ -165,9 +165,9 @@ pub record Switching (v : ℕ) (x : HandlerStep) : Type 0 where
   pub begins : begins_switch x.moment ≡ true
 
 pub switching : (v : ℕ) (x : HandlerStep) → Switching v x ⊎ (switch_here v x ≡ false)
-switching v x = go (here_or_away v x) (begins_switch x.moment) refl
+switching v x = go (here_or_away v 6 x) (begins_switch x.moment) refl
   where
-    go : Repl_here v x ⊎ Repl_away v x → (b : Bool) → begins_switch x.moment ≡ b → Switching v x ⊎ (switch_here v x ≡ false)
+    go : IsHere v 6 x ⊎ IsElsewhere v 6 x → (b : Bool) → begins_switch x.moment ≡ b → Switching v x ⊎ (switch_here v x ≡ false)
     go (inl here) true e = inl (record { at = here.at; begins = e })
     go (inl here) false e = inr (ap (λ (b : Bool). b && begins_switch x.moment) here.test ∙ e)
     go (inr away) b e = inr (ap (λ (c : Bool). c && begins_switch x.moment) away.test)
@@ -238,7 +238,7 @@ first_switch script exts group before ext later is root b comp node f earlier = 
     begun first =
         let both : b.call.handler ∷ first.others ≡ handler 6 2 ∷ [] = sym first.first ∙ (listed script exts group (trace script before) b f S.root).switched eighteen in
         let is : b.call.handler ≡ handler 6 2 = cc in
-        let here : is_repl ext.node.0 b ≡ true = test_here ext.node.0 b (sym node, sym (ap (λ (h : HandlerId). h.micro.0) is)) in
+        let here : is_repl ext.node.0 b ≡ true = test_here ext.node.0 6 b (sym node, sym (ap (λ (h : HandlerId). h.micro.0) is)) in
         let moment : b.moment ≡ Moment.Begin 2 S.arg = first.moment ∙ ap (λ (h : HandlerId). Moment.Begin h.index S.arg) is in
         ap (λ (c : Bool). c && begins_switch b.moment) here ∙ ap begins_switch moment
 

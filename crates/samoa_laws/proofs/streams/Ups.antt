@@ -11,7 +11,6 @@ use Rattle.samoa_laws.specs.lists.Lists.{Comparable}
 use Rattle.samoa_laws.specs.lists.Messages.{first_places}
 use Rattle.samoa_serial.specs.Lists.{In}
 use Rattle.samoa_laws.specs.replacement.Group.{Up, called_by, messages_of}
-use Rattle.samoa_laws.specs.broadcasts.Begun as broadcasts
 use Rattle.samoa_laws.specs.broadcasts.Begun.{begun, begun_by, begun_with, delivered_by, with_caller}
 use Rattle.samoa_laws.specs.streams.Ordered.{caller, up_in, ups_at}
 use Rattle.samoa_laws.specs.streams.Streams.{is_repl}
@@ -31,14 +30,9 @@ one_up p true (Moment.Resume i frame reply) = refl
 ups_are : (v : ℕ) (past : List HandlerStep) → map up_of (begun v past) ≡ ups_at v past
 ups_are v [] = refl
 ups_are v (x ∷ past) =
-    map-append up_of (begun v past) (with_caller (broadcasts.caller past) (delivered_by v x))
-    ∙ (ap (λ (us : List Up). us ++ map up_of (with_caller (broadcasts.caller past) (delivered_by v x))) (ups_are v past)
-    ∙ (ap (λ (us : List Up). ups_at v past ++ us) (one_up (broadcasts.caller past) (is_repl v x) x.moment)
-    ∙ ap (λ (p : ℕ). ups_at v past ++ (if is_repl v x then up_in p x.moment else [])) (same past)))
-  where
-    same : (steps : List HandlerStep) → broadcasts.caller steps ≡ caller steps
-    same [] = refl
-    same (b ∷ steps) = refl
+    map-append up_of (begun v past) (with_caller (caller past) (delivered_by v x))
+    ∙ (ap (λ (us : List Up). us ++ map up_of (with_caller (caller past) (delivered_by v x))) (ups_are v past)
+    ∙ ap (λ (us : List Up). ups_at v past ++ us) (one_up (caller past) (is_repl v x) x.moment))
 
 -- ---- those of one protocol
 called_are : (p : ℕ) (es : List (ℕ × Message)) → map (λ (e : ℕ × Message). e.1) (filter (λ (e : ℕ × Message). e.0 == p) es) ≡ called_by p (map up_of es)

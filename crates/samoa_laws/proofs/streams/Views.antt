@@ -24,7 +24,8 @@ use Rattle.samoa_laws.specs.replacement.Trace as seen
 use Rattle.samoa_laws.specs.replacement.Trace.{Item, ResumesFrom, SameCall, awaited, box_of, carried}
 use Rattle.samoa_laws.proofs.replacement.Traces.{trace_goes_on, trace_history, trace_rests}
 use Rattle.samoa_laws.specs.streams.Streams.{repl_setup, is_repl, repl_at, repl_state, repl_step_of}
-use Rattle.samoa_laws.proofs.streams.Boxes.{Made, box_state, is_here, made, test_here}
+use Rattle.samoa_laws.proofs.trace.Boxes.{is_here, test_here}
+use Rattle.samoa_laws.proofs.streams.Boxes.{Made, box_state, made}
 
 -- a step of the trace, and a trace, as they are seen from the box of a node
 abbrev pub item : ℕ → HandlerStep → Item
@@ -84,7 +85,7 @@ resumed_from script exts v past x trace f at handler frame reply e = record {
   from = item v r.last;
   before = items v r.before;
   is = ap (items v) r.split ∙ map-append (item v) r.since (r.last ∷ r.before);
-  here = test_here v r.last (at.0 ∙ (f.follows.node ∙ sym on.acts.node), at.1 ∙ ap (λ (c : Call). c.handler.micro.0) (sym on.call));
+  here = test_here v 6 r.last (at.0 ∙ (f.follows.node ∙ sym on.acts.node), at.1 ∙ ap (λ (c : Call). c.handler.micro.0) (sym on.call));
   same = record { computation = on.acts.comp ∙ sym f.follows.comp; call = ap (λ (c : Call). c.number) on.call };
   of = step-index script exts b.earlier r.last b.follows
       ∙ (ap (λ (c : Call). c.handler.index) on.call ∙ (sym (step-index script exts past x f) ∙ ap handler_of e));
@@ -154,7 +155,7 @@ asks_on (Outcome.Send to event arg g) frame e = refl
 next_of : (script : Script) (exts : List Ext) (v : ℕ) (b : HandlerStep) (past : List HandlerStep) (x : HandlerStep) → IsTrace script exts (b ∷ past)
     → FollowsIn script exts (b ∷ past) x → (frame : List ℕ) → awaited (items v (b ∷ past)) ≡ Some frame → seen.ComesAtOnce (item v b) (item v x) frame
 next_of script exts v b past x trace f frame e = record {
-  here = test_here v x (at.0 ∙ (next.acts.node ∙ sym f.follows.node), at.1 ∙ ap (λ (c : Call). c.handler.micro.0) (sym h.call));
+  here = test_here v 6 x (at.0 ∙ (next.acts.node ∙ sym f.follows.node), at.1 ∙ ap (λ (c : Call). c.handler.micro.0) (sym h.call));
   same = record { computation = next.acts.comp ∙ sym f.follows.comp; call = ap (λ (c : Call). c.number) (sym h.call) };
   reply = Reply.Words [];
   resumes = h.moment ∙ ap (λ (n : ℕ). Moment.Resume n frame (Reply.Words [])) (ap (λ (c : Call). c.handler.index) h.call ∙ sym (step-index script exts past b trace.0));
@@ -164,7 +165,7 @@ next_of script exts v b past x trace f frame e = record {
     a = awaits v b past frame e
 
     at : IsAt b v 6
-    at = is_here v b a.here
+    at = is_here v 6 b a.here
 
     next : IsNext (setting f) b x.call x.moment
     next = goes_on_at_once script exts b past x f a.effective (asks_on b.outcome frame a.gives)
@@ -182,7 +183,7 @@ pub seen_trace : (script : Script) (exts : List Ext) → IsGroup script → (v :
     → seen.IsTrace (repl_setup script v) (items v past)
 seen_trace script exts group v [] trace = tt
 seen_trace script exts group v (x ∷ past) trace =
-    (λ here. is_made (is_here v x here), at_once script exts v past x trace.1 trace.0, seen_trace script exts group v past trace.1)
+    (λ here. is_made (is_here v 6 x here), at_once script exts v past x trace.1 trace.0, seen_trace script exts group v past trace.1)
   where
     is_made : IsAt x v 6 → seen.IsMade (repl_setup script v) (items v past) (item v x)
     is_made at =

@@ -10,7 +10,8 @@ use Rattle.samoa_serial.specs.declared.message.Message.{Message}
 use Rattle.samoa_laws.specs.trace.Trace.{HandlerStep, micro_of, trace}
 use Rattle.samoa_laws.specs.trace.Group.{event, handler}
 use Rattle.samoa_laws.specs.transport.Transport.{BeginsAt}
-use Rattle.samoa_laws.specs.trace.Boxes.{BoxStep}
+use Rattle.samoa_laws.specs.trace.Boxes.{BoxStep, box_steps}
+use Rattle.samoa_laws.specs.consensus.Decisions.{WasProposed}
 use Rattle.samoa_laws.specs.broadcasts.Abcast.{abcast_opening}
 use Rattle.samoa_laws.specs.broadcasts.Seqcast.{seqcast_opening}
 
@@ -19,15 +20,7 @@ pub record IsPart (script : Script) (exts : List Ext) (past : List HandlerStep) 
   pub more : List HandlerStep
   pub split : trace script exts ≡ more ++ past
 
--- ---- the steps at a box, the last one first
-abbrev pub box_step : {S : Type 0} → (State → S) → HandlerStep → BoxStep S
-box_step of x = record { moment = x.moment; old = of x.old; new = of x.new; outcome = x.outcome; effective = x.effective }
-
-abbrev pub box_steps : {S : Type 0} → (State → S) → ℕ → ℕ → List HandlerStep → List (BoxStep S)
-box_steps of node p [] = []
-box_steps of node p (x ∷ past) =
-    if node == x.node then (if p == micro_of x then box_step of x ∷ box_steps of node p past else box_steps of node p past) else box_steps of node p past
-
+-- ---- the boxes
 abbrev pub abcast_of : State → AbcastState
 abcast_of (OfAbcast s) = s
 abcast_of _ = abcast_opening
@@ -48,15 +41,6 @@ seqcast_steps node past = box_steps seqcast_of node 5 past
 abbrev pub IsDecided : Script → List Ext → (ℕ → Option Message) → Type 0
 IsDecided script exts decision = (past : List HandlerStep) (node : ℕ) (arg : List ℕ)
     → BeginsAt script exts past node (handler 4 2) arg → decision (word arg 0) ≡ Some (message_at arg 1)
-
--- `propose` of consensus began, at some node, with this message for this instance
-pub record WasProposed (script : Script) (exts : List Ext) (i : ℕ) (m : Message) : Type 0 where
-  pub node : ℕ
-  pub arg : List ℕ
-  pub past : List HandlerStep
-  pub begins : BeginsAt script exts past node (handler 3 0) arg
-  pub instance : word arg 0 ≡ i
-  pub message : message_at arg 1 ≡ m
 
 abbrev pub AreProposed : Script → List Ext → (ℕ → Option Message) → Type 0
 AreProposed script exts decision = (i : ℕ) (m : Message) → decision i ≡ Some m → WasProposed script exts i m

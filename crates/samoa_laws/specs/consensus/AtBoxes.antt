@@ -5,12 +5,13 @@ use Rattle.samoa_model.specs.declared.script.Script.{Script}
 use Rattle.samoa_model.specs.declared.setup.Setup.{Setup}
 use Rattle.samoa_serial.specs.State.{ConsState, OfCons, State}
 use Rattle.samoa_laws.specs.trace.Trace.{HandlerStep, micro_of}
+use Rattle.samoa_laws.specs.trace.Boxes.{box_step}
 use Rattle.samoa_laws.specs.consensus.Consensus.{NodeStep, cons_opening}
 
 -- a step with its node, where `of` reads the states of its microprotocol
 abbrev pub node_step : {S : Type 0} → (State → S) → HandlerStep → NodeStep S
 node_step of x =
-    record { node = x.node; step = record { moment = x.moment; old = of x.old; new = of x.new; outcome = x.outcome; effective = x.effective } }
+    record { node = x.node; step = box_step of x }
 
 -- those of microprotocol p, at all nodes, the last one first
 abbrev pub node_steps : {S : Type 0} → ℕ → (State → S) → List HandlerStep → List (NodeStep S)

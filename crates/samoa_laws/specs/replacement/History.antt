@@ -11,24 +11,21 @@ use Rattle.samoa_serial.specs.declared.message.Message.{Message}
 use Rattle.std.specs.List.{list_all}
 use Rattle.samoa_laws.specs.lists.Lists.{among, firsts}
 use Rattle.samoa_serial.specs.State.{ReplState}
+use Rattle.samoa_laws.specs.trace.Boxes as boxes
+use Rattle.samoa_laws.specs.trace.Boxes.{BoxStep}
 use Rattle.samoa_serial.specs.Rows.{word, up, change_at_place, message_at, has_pair}
 use Rattle.samoa_serial.specs.ReplTable.{pair_of, first_of, is_to_come, repl_hand_on, repl_step}
 
--- a step as it was made. It is effective where its outcome was carried out
-pub record Step : Type 0 where
-  pub moment : Moment
-  pub old : ReplState
-  pub new : ReplState
-  pub outcome : Outcome
-  pub effective : Bool
+-- a step as it was made
+abbrev pub Step : Type 0
+Step = BoxStep ReplState
 
 abbrev pub repl_opening : ReplState
 repl_opening = record { epoch = 0; hold = 0; count = 0; mine = []; delivered = []; early = [] }
 
 -- the state that the last step left
 abbrev pub left_by : List Step → ReplState
-left_by [] = repl_opening
-left_by (s ∷ earlier) = s.new
+left_by steps = boxes.left_by repl_opening steps
 
 -- the frame of a delivery or of a change
 abbrev pub frame_of : Outcome → Option (List ℕ)

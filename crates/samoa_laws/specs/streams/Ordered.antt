@@ -12,12 +12,8 @@ use Rattle.samoa_laws.specs.lists.Lists.{Comparable}
 use Rattle.samoa_laws.specs.lists.Messages.{first_places}
 use Rattle.samoa_laws.specs.replacement.Group.{Up, called_by}
 use Rattle.samoa_laws.specs.replacement.History.{last_value}
+pub use Rattle.samoa_laws.specs.broadcasts.Begun.{caller}
 use Rattle.samoa_laws.specs.streams.Streams.{is_repl}
-
--- the microprotocol of the last of these steps
-abbrev pub caller : List HandlerStep → ℕ
-caller [] = 0
-caller (b ∷ past) = micro_of b
 
 abbrev pub up_in : ℕ → Moment → List Up
 up_in by (Moment.Begin i arg) = if i == 1 then record { by = by; message = message_at arg 0 } ∷ [] else []

@@ -9,6 +9,7 @@ use Rattle.samoa_serial.specs.Whole.{Ran}
 use Rattle.samoa_serial.specs.SerialRun.{serial}
 use Rattle.samoa_laws.specs.trace.Trace.{HandlerStep, micro_of}
 use Rattle.samoa_laws.specs.trace.Group.{change, event}
+use Rattle.samoa_laws.specs.trace.Boxes.{box_step, box_steps, is_at}
 use Rattle.samoa_laws.specs.replacement.History.{Step, repl_opening}
 
 -- the words that the replacement layer, microprotocol 6, delivered, of these entries
@@ -41,22 +42,15 @@ repl_setup script v = record {
 
 -- a step of the replacement layer at this node
 abbrev pub is_repl : ℕ → HandlerStep → Bool
-is_repl v x = (x.node == v) && (micro_of x == 6)
+is_repl v x = is_at v 6 x
 
 abbrev pub repl_state : State → ReplState
 repl_state (OfRepl s) = s
 repl_state _ = repl_opening
 
 abbrev pub repl_step_of : HandlerStep → Step
-repl_step_of x = record {
-  moment = x.moment;
-  old = repl_state x.old;
-  new = repl_state x.new;
-  outcome = x.outcome;
-  effective = x.effective;
-}
+repl_step_of x = box_step repl_state x
 
 -- the history of the box at this node: its steps among these, the last one first
 abbrev pub repl_at : ℕ → List HandlerStep → List Step
-repl_at v [] = []
-repl_at v (x ∷ past) = if is_repl v x then repl_step_of x ∷ repl_at v past else repl_at v past
+repl_at v past = box_steps repl_state v 6 past

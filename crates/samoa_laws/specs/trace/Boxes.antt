@@ -1,10 +1,9 @@
--- The history of one box: the handler steps that were made there, the last first.
-use Rattle.std.specs.Prelude.{ℕ, ◌≡◌, Bool, true, false, ◌==◌, if◌then◌else◌, List, [], ◌∷◌, ◌++◌, map, Option, Some, None, ⊤}
-use Rattle.samoa_serial.specs.Rows.{word, message_at}
+-- The history of one box: the handler steps that were made there, the last first; and those of a trace at a box.
+use Rattle.std.specs.Prelude.{ℕ, ◌≡◌, Bool, true, false, ◌&&◌, ◌==◌, if◌then◌else◌, List, [], ◌∷◌, ◌++◌, Option, Some, None, ⊤}
 use Rattle.samoa_model.specs.declared.handler.Moment.{Moment}
 use Rattle.samoa_model.specs.declared.handler.Outcome.{Outcome}
-use Rattle.samoa_serial.specs.declared.message.Message.{Message}
-use Rattle.samoa_laws.specs.lists.Lists.{In}
+use Rattle.samoa_serial.specs.State.{State}
+use Rattle.samoa_laws.specs.trace.Trace.{HandlerStep, micro_of}
 
 -- what a step was given, the states before and after it, what it answered, and whether that took effect:
 -- a cut step leaves its new state, and its outcome has no effect
@@ -40,3 +39,15 @@ abbrev pub noted : {A : Type 0} → List A → Option A → Bool → List A
 noted xs None counts = xs
 noted xs (Some x) true = xs ++ x ∷ []
 noted xs (Some x) false = xs
+
+-- ---- the steps of a trace at the box of microprotocol p at node v
+abbrev pub is_at : ℕ → ℕ → HandlerStep → Bool
+is_at v p x = (x.node == v) && (micro_of x == p)
+
+-- a step as one of its box, where `of` reads the states of the microprotocol
+abbrev pub box_step : {S : Type 0} → (State → S) → HandlerStep → BoxStep S
+box_step of x = record { moment = x.moment; old = of x.old; new = of x.new; outcome = x.outcome; effective = x.effective }
+
+abbrev pub box_steps : {S : Type 0} → (State → S) → ℕ → ℕ → List HandlerStep → List (BoxStep S)
+box_steps of v p [] = []
+box_steps of v p (x ∷ past) = if is_at v p x then box_step of x ∷ box_steps of v p past else box_steps of v p past
