@@ -14,8 +14,9 @@ use Rattle.samoa_laws.specs.lists.Lists.{In}
 use Rattle.samoa_laws.specs.trace.Boxes.{noted}
 use Rattle.samoa_laws.specs.broadcasts.Boxes.{raised_by}
 use Rattle.samoa_laws.specs.broadcasts.Abcast.{up_to}
-use Rattle.samoa_laws.proofs.broadcasts.Maps.{HasMore, with_message_is, has-with_key, some_same}
+use Rattle.samoa_laws.proofs.broadcasts.Maps.{HasMore, with_message_is, has-with_key}
 use Rattle.samoa_laws.proofs.broadcasts.Handed.{Handed, gets_more, skips, hands_on, moves_on, few_passed}
+use Rattle.samoa_laws.proofs.lists.Lists.{some_same}
 
 -- what holds of the state's decisions, keys handed on and next instance, where us was called up
 pub record Stands (message : ℕ → Option Message) (Phi : ℕ → Message → Type 0) (es : List (ℕ × Message)) (done : List Key) (next : ℕ) (us : List (ℕ × Message)) : Type 0 where

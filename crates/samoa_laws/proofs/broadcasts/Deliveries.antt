@@ -25,7 +25,7 @@ use Rattle.samoa_laws.specs.broadcasts.Begun.{begun, begun_by, begun_with, calle
 use Rattle.samoa_laws.proofs.trace.Boxes.{made_at, steps-away, steps-here, steps_of}
 use Rattle.samoa_laws.proofs.broadcasts.Boxes.{own_index, Upward}
 use Rattle.samoa_laws.proofs.transport.Events.{CalledAtOnce, at_once, upward_is}
-use Rattle.samoa_laws.proofs.broadcasts.Histories.{handler_is}
+use Rattle.samoa_laws.proofs.transport.Carried.{handler_is}
 
 -- the message of a call upwards that took effect
 abbrev pub just : Option (ℕ × Message) → Bool → Option Message

@@ -11,6 +11,7 @@ use Rattle.samoa_serial.specs.declared.keys.Key.{Key}
 use Rattle.samoa_serial.specs.declared.message.Message.{Message}
 use Rattle.samoa_laws.proofs.lists.Messages.{same_key_equal}
 use Rattle.samoa_laws.specs.lists.Lists.{In}
+use Rattle.samoa_laws.proofs.lists.Lists.{some_same}
 
 -- ---- sets of keys
 keyed_is : (a b : Key) → is_eq (keyed.cmp a b) ≡ same_key b a
@@ -122,9 +123,6 @@ length-insert (e ∷ es) k v = go (nat_cmp k e.0) (length-insert es k v)
     go Less ih = omega arith
     go Equal ih = omega arith
     go Greater ih = omega arith
-
-pub some_same : (o : Option Message) (m n : Message) → o ≡ Some m → o ≡ Some n → m ≡ n
-some_same o m n e f = cc
 
 pub some_or_none : (o : Option Message) → ((m : Message) × (o ≡ Some m)) ⊎ (o ≡ None)
 some_or_none None = inr refl

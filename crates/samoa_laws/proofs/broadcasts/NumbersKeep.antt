@@ -18,6 +18,7 @@ use Rattle.samoa_laws.specs.broadcasts.Seqcast.{seqcast_opening, told_by, told, 
 use Rattle.samoa_laws.proofs.broadcasts.Maps.{has-with_key}
 use Rattle.samoa_laws.proofs.broadcasts.Handed.{messages, messages_end}
 use Rattle.samoa_laws.proofs.broadcasts.Numbers.{Told, none_told, tells}
+use Rattle.samoa_laws.proofs.lists.Lists.{or_false_both}
 
 -- what holds of the state's number and keys, where ts was told
 pub record Numbered (Psi : Message → Type 0) (n : ℕ) (count : ℕ) (keys : List Key) (ts : List (ℕ × Message)) : Type 0 where
@@ -36,10 +37,6 @@ after_if : (Psi : Message → Type 0) (n : ℕ) (ts : List (ℕ × Message)) (b 
     → (b ≡ true → After Psi n ts r) → (b ≡ false → After Psi n ts q) → After Psi n ts (if b then r else q)
 after_if Psi n ts true r q first second = first refl
 after_if Psi n ts false r q first second = second refl
-
-or_false_both : (a b : Bool) → (a || b) ≡ false → (a ≡ false) × (b ≡ false)
-or_false_both true b e = absurd (cc)
-or_false_both false b e = (refl, e)
 
 later : (Psi : Message → Type 0) (n count : ℕ) (keys : List Key) (ts : List (ℕ × Message)) → Numbered Psi n count keys ts → Numbered Psi (suc n) count keys ts
 later Psi n count keys ts o =

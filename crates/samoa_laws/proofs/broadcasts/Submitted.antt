@@ -28,7 +28,8 @@ use Rattle.samoa_laws.proofs.trace.Boxes.{FromTrace, from_box, in_box}
 use Rattle.samoa_laws.proofs.broadcasts.Boxes.{own_index}
 use Rattle.samoa_laws.proofs.broadcasts.Both.{apart}
 use Rattle.samoa_laws.proofs.transport.Events.{CalledBy, called, proposes}
-use Rattle.samoa_laws.proofs.broadcasts.Histories.{SeqHeard, abcast_any, handler_is, part_trace, seq_heard, seqcast_any}
+use Rattle.samoa_laws.proofs.broadcasts.Histories.{SeqHeard, abcast_any, part_trace, seq_heard, seqcast_any}
+use Rattle.samoa_laws.proofs.transport.Carried.{handler_is}
 
 -- one of the steps of a part, and the part before it
 pub record PartAt (script : Script) (exts : List Ext) (past : List HandlerStep) (x : HandlerStep) : Type 0 where

@@ -14,6 +14,7 @@ use Rattle.samoa_serial.specs.Lists.{In}
 use Rattle.samoa_laws.specs.broadcasts.Begun.{AreProposed, IsDecided, WasSubmitted, abcast_steps, begun, begun_by}
 use Rattle.samoa_laws.proofs.broadcasts.Agree.{abcast_valid, called_at_end, part_of_itself}
 use Rattle.samoa_laws.proofs.broadcasts.Both.{abcast_box}
+use Rattle.samoa_laws.proofs.trace.Allowed.{Allowed, allowed_at}
 
 script : Script
 script = record {
@@ -63,12 +64,8 @@ behind = refl
 ran : List Ext → Ext → Ran
 ran before ext = ran_of script before ((serial script before).states 0) ext
 
-Allowed : List Ext → Ext → Type 0
-unfolding script
-Allowed before ext = IsFree ext.cause ⊎ (IsWire script before ext ⊎ IsRebinding script before ext)
-
-estimate : Allowed (cast ∷ []) (wire 1)
-unfolding script cast wire ran Allowed
+estimate : Allowed script (cast ∷ []) (wire 1)
+unfolding script cast wire ran
 estimate = inr (inl (record {
   cause = refl;
   sent = record {
@@ -81,15 +78,15 @@ estimate = inr (inl (record {
   };
 }))
 
-proposal : Allowed (cast ∷ wire 1 ∷ []) (wire 2)
-unfolding script cast wire ran Allowed
+proposal : Allowed script (cast ∷ wire 1 ∷ []) (wire 2)
+unfolding script cast wire ran
 proposal = inr (inl (record {
   cause = refl;
   sent = record { ran = ran (cast ∷ []) (wire 1); served = inr (inl refl); call = 3; to = Dest.All; here = tt; entry = inr (inr (inr (inl refl))) };
 }))
 
-acknowledgement : Allowed (cast ∷ wire 1 ∷ wire 2 ∷ []) (wire 3)
-unfolding script cast wire ran Allowed
+acknowledgement : Allowed script (cast ∷ wire 1 ∷ wire 2 ∷ []) (wire 3)
+unfolding script cast wire ran
 acknowledgement = inr (inl (record {
   cause = refl;
   sent = record {
@@ -102,37 +99,8 @@ acknowledgement = inr (inl (record {
   };
 }))
 
-allowed : (before : List Ext) (ext : Ext) (later : List Ext) → cast ∷ wire 1 ∷ wire 2 ∷ wire 3 ∷ [] ≡ before ++ ext ∷ later → Allowed before ext
-unfolding Allowed cast
-allowed [] ext later e =
-    let all : cast ∷ wire 1 ∷ wire 2 ∷ wire 3 ∷ [] ≡ ext ∷ later = e in
-    let is : cast ≡ ext = cc in
-    subst (λ (x : Ext). Allowed [] x) is (inl (inl refl))
-allowed (a ∷ []) ext later e =
-    let all : cast ∷ wire 1 ∷ wire 2 ∷ wire 3 ∷ [] ≡ a ∷ ext ∷ later = e in
-    let first : cast ≡ a = cc in
-    let is : wire 1 ≡ ext = cc in
-    subst (λ (x : Ext). Allowed (x ∷ []) ext) first (subst (λ (x : Ext). Allowed (cast ∷ []) x) is estimate)
-allowed (a ∷ b ∷ []) ext later e =
-    let all : cast ∷ wire 1 ∷ wire 2 ∷ wire 3 ∷ [] ≡ a ∷ b ∷ ext ∷ later = e in
-    let first : cast ≡ a = cc in
-    let second : wire 1 ≡ b = cc in
-    let is : wire 2 ≡ ext = cc in
-    subst (λ (x : Ext). Allowed (x ∷ b ∷ []) ext) first (subst (λ (x : Ext). Allowed (cast ∷ x ∷ []) ext) second (subst (λ (x : Ext). Allowed (cast ∷ wire 1 ∷ []) x) is proposal))
-allowed (a ∷ b ∷ c ∷ []) ext later e =
-    let all : cast ∷ wire 1 ∷ wire 2 ∷ wire 3 ∷ [] ≡ a ∷ b ∷ c ∷ ext ∷ later = e in
-    let first : cast ≡ a = cc in
-    let second : wire 1 ≡ b = cc in
-    let third : wire 2 ≡ c = cc in
-    let is : wire 3 ≡ ext = cc in
-    subst (λ (x : Ext). Allowed (x ∷ b ∷ c ∷ []) ext) first (subst (λ (x : Ext). Allowed (cast ∷ x ∷ c ∷ []) ext) second
-    (subst (λ (x : Ext). Allowed (cast ∷ wire 1 ∷ x ∷ []) ext) third (subst (λ (x : Ext). Allowed (cast ∷ wire 1 ∷ wire 2 ∷ []) x) is acknowledgement)))
-allowed (a ∷ b ∷ c ∷ d ∷ more) ext later e =
-    let len : 4 ≡ length (a ∷ b ∷ c ∷ d ∷ (more ++ ext ∷ later)) = ap (λ (xs : List Ext). length xs) e in
-    absurd (omega (arith, len, length-append more (ext ∷ later)))
-
 history : IsGroupHistory script exts
-unfolding script cast wire exts Allowed
+unfolding script cast wire exts
 history = record {
   group = record { micros = refl; decls = refl; events = refl; changes = refl; does = tt };
   few = omega arith;
@@ -140,7 +108,7 @@ history = record {
     record { node = omega arith; cause = omega arith },
     (record { node = omega arith; cause = omega arith }, (record { node = omega arith; cause = omega arith }, (record { node = omega arith; cause = omega arith }, tt))),
   );
-  allowed = allowed;
+  allowed = allowed_at script [] exts (inl (inl refl), (estimate, (proposal, (acknowledgement, tt))));
 }
 
 -- so the laws speak of it: the message was given to abcast, if it is the decision of the instance 1

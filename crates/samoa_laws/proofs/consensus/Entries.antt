@@ -13,6 +13,7 @@ use Rattle.samoa_serial.specs.declared.keys.Ballot.{Ballot}
 use Rattle.samoa_serial.specs.declared.message.Instance.{Instance}
 use Rattle.samoa_laws.specs.lists.Lists.{In}
 use Rattle.samoa_laws.proofs.broadcasts.Maps.{Agrees, lookup_insert, numbers_agree}
+use Rattle.samoa_laws.proofs.lists.Lists.{and_true}
 
 -- ---- ballots
 abbrev pub same_ballot : Ballot → Ballot → Bool
@@ -20,10 +21,6 @@ same_ballot a b = (a.instance == b.instance) && (a.round == b.round)
 
 tied_ballots : (a b : Ballot) → is_eq (balloted.cmp a b) ≡ same_ballot b a
 tied_ballots a b = grind (arith, nat_tests)
-
-and_true : (a b : Bool) → (a && b) ≡ true → (a ≡ true) × (b ≡ true)
-and_true true b e = (refl, e)
-and_true false b e = absurd (cc)
 
 pub equal_ballots : (a b : Ballot) → same_ballot a b ≡ true → a ≡ b
 equal_ballots a b t =

@@ -14,6 +14,7 @@ use Rattle.samoa_laws.specs.lists.Lists.{In}
 use Rattle.samoa_laws.proofs.consensus.Majorities.{coordinator_of}
 use Rattle.samoa_laws.proofs.consensus.Entries.{IsRising}
 use Rattle.samoa_laws.proofs.consensus.Locked.{Put, Facts, senders, Backing, IsLocked, IsSafe}
+use Rattle.samoa_laws.proofs.lists.Lists.{some_same}
 
 -- ---- what was told, by letters
 abbrev pub letter : ℕ → ℕ → Ballot → ℕ → Message → Letter
@@ -97,9 +98,6 @@ pub record Inv (Phi : ℕ → Message → Type 0) (n : ℕ) (states : ℕ → Co
   pub announced : (i : ℕ) (m : Message) → In (i, m) an → IsLocked n (facts_of ls an i) m
   pub decided : (i : ℕ) (m : Message) → In (i, m) ds → In (i, m) an
 
-one_message : (c : Option Message) (m m' : Message) → c ≡ Some m → c ≡ Some m' → m ≡ m'
-one_message c m m' e e' = cc
-
 -- a proposal of an instance is at its coordinator
 pub put_made : (Phi : ℕ → Message → Type 0) (n : ℕ) (states : ℕ → ConsState) (ls : List Letter) (an ds : List (ℕ × Message)) → Inv Phi n states ls an ds
     → (b : Ballot) (m : Message) → IsPut ls b m → (round_at (states (coordinator_of n b.round)).rounds b).proposal ≡ Some m
@@ -109,7 +107,7 @@ pub safe : (Phi : ℕ → Message → Type 0) (n : ℕ) (states : ℕ → ConsSt
     → (i : ℕ) → IsSafe n (facts_of ls an i)
 safe Phi n states ls an ds inv i = record {
   unique = λ p q hp hq e.
-      one_message (round_at (states (coordinator_of n p.round)).rounds (ballot i p.round)).proposal p.message q.message
+      some_same (round_at (states (coordinator_of n p.round)).rounds (ballot i p.round)).proposal p.message q.message
       (put_made Phi n states ls an ds inv (ballot i p.round) p.message hp)
       (subst (λ (r : ℕ). (round_at (states (coordinator_of n r)).rounds (ballot i r)).proposal ≡ Some q.message) (sym e)
       (put_made Phi n states ls an ds inv (ballot i q.round) q.message hq));

@@ -13,7 +13,7 @@ use Rattle.samoa_serial.specs.declared.message.Instance.{Instance}
 use Rattle.samoa_serial.specs.declared.message.Estimate.{Estimate}
 use Rattle.samoa_serial.specs.declared.message.Letter.{Letter}
 use Rattle.samoa_model.specs.declared.setup.Setup.{Setup}
-use Rattle.samoa_laws.proofs.lists.Lists.{in_end}
+use Rattle.samoa_laws.proofs.lists.Lists.{and_true, in_end, or_false_both}
 use Rattle.samoa_laws.specs.lists.Lists.{In}
 use Rattle.samoa_laws.specs.trace.Boxes.{noted}
 use Rattle.samoa_laws.specs.consensus.Consensus.{letter_by, announced_by, decided_by}
@@ -44,14 +44,6 @@ nothing Phi setup states ls an ds inv = still_keeps Phi setup.nodes states ls an
 -- ---- tests
 positive : (r : ℕ) → (r == 0) ≡ false → 1 ≤ r
 positive r t = grind (arith, nat_tests)
-
-or_false : (a b : Bool) → (a || b) ≡ false → (a ≡ false) × (b ≡ false)
-or_false true b e = absurd (cc)
-or_false false b e = (refl, e)
-
-and_true : (a b : Bool) → (a && b) ≡ true → (a ≡ true) × (b ≡ true)
-and_true true b e = (refl, e)
-and_true false b e = absurd (cc)
 
 not_false : (a : Bool) → not a ≡ false → a ≡ true
 not_false true e = refl
@@ -148,7 +140,7 @@ row_proposed Phi setup states ls an ds inv lt b m put =
     after_if Phi setup states ls an ds (b.round == 0 || nat_lt b.round (round_of (instance_of s.instances b.instance))) (s, done [])
     (with_instance s b.instance (record { round = b.round; estimate = m; adopted = b.round }), tell setup (coordinator setup b.round) 3 b 0 m [])
     (λ t. nothing Phi setup states ls an ds inv)
-    (λ t. let both = or_false (b.round == 0) (nat_lt b.round (round_of (instance_of s.instances b.instance))) t in
+    (λ t. let both = or_false_both (b.round == 0) (nat_lt b.round (round_of (instance_of s.instances b.instance))) t in
     adopt_keeps Phi setup.nodes states ls an ds (me setup) inv lt b m put (positive b.round both.0) (at_most b.round (round_of (instance_of s.instances b.instance)) both.1))
   where
     s : ConsState

@@ -13,6 +13,7 @@ use Rattle.samoa_laws.specs.lists.Lists.{Begins}
 use Rattle.samoa_laws.specs.consensus.AtBoxes.{cons_of}
 use Rattle.samoa_laws.specs.consensus.Decisions.{HasDecided, decision}
 use Rattle.samoa_laws.proofs.consensus.Agreed.{agree}
+use Rattle.samoa_laws.proofs.trace.Allowed.{allowed_at}
 
 script : Script
 script = record {
@@ -49,28 +50,6 @@ unfolding script message cast letter exts
 standing = record { state = cons_of ((serial script exts).states 0 3); found = refl; decision = refl }
 
 -- ---- it is a group history
-abbrev Splits : (List Ext → Ext → Type 0) → List Ext → List Ext → Type 0
-Splits P before [] = ⊤
-Splits P before (ext ∷ later) = P before ext × Splits P (before ++ ext ∷ []) later
-
-every : (P : List Ext → Ext → Type 0) (done xs : List Ext) → Splits P done xs → (before : List Ext) (ext : Ext) (later : List Ext) → xs ≡ before ++ ext ∷ later → P (done ++ before) ext
-every P done [] all [] ext later e = absurd (let both : [] ≡ ext ∷ later = e in cc)
-every P done [] all (y ∷ before) ext later e = absurd (let both : [] ≡ y ∷ (before ++ ext ∷ later) = e in cc)
-every P done (x ∷ xs) all [] ext later e =
-    let both : x ∷ xs ≡ ext ∷ later = e in
-    let is : x ≡ ext = cc in
-    subst (λ (ys : List Ext). P ys ext) (sym (append-nil done)) (subst (P done) is all.0)
-every P done (x ∷ xs) all (y ∷ before) ext later e =
-    let both : x ∷ xs ≡ y ∷ (before ++ ext ∷ later) = e in
-    let is : x ≡ y = cc in
-    let rest : xs ≡ before ++ ext ∷ later = cc in
-    subst (λ (z : Ext). P (done ++ z ∷ before) ext) is
-    (subst (λ (ys : List Ext). P ys ext) (append_assoc done (x ∷ []) before) (every P (done ++ x ∷ []) xs all.1 before ext later rest))
-
-Allowed : List Ext → Ext → Type 0
-unfolding script
-Allowed before ext = IsFree ext.cause ⊎ (IsWire script before ext ⊎ IsRebinding script before ext)
-
 ran : List Ext → Ext → Ran
 unfolding script
 ran before ext = ran_of script before ((serial script before).states 0) ext
@@ -111,7 +90,7 @@ third = record {
 }
 
 history : IsGroupHistory script exts
-unfolding script cast letter exts Allowed
+unfolding script cast letter exts
 history = record {
   group = record { micros = refl; decls = refl; events = refl; changes = refl; does = tt };
   few = omega arith;
@@ -119,7 +98,7 @@ history = record {
     record { node = omega arith; cause = omega arith },
     (record { node = omega arith; cause = omega arith }, (record { node = omega arith; cause = omega arith }, (record { node = omega arith; cause = omega arith }, tt))),
   );
-  allowed = every Allowed [] exts (inl (inl refl), (inr (inl first), (inr (inl second), (inr (inl third), tt))));
+  allowed = allowed_at script [] exts (inl (inl refl), (inr (inl first), (inr (inl second), (inr (inl third), tt))));
 }
 
 -- so no node ever has another decision of instance 1

@@ -9,13 +9,9 @@ use Rattle.samoa_serial.proofs.ListLaws.{begins-append, begins-refl, begins-tran
 use Rattle.samoa_laws.specs.lists.Lists.{In, Begins, Comparable, among, unknown}
 use Rattle.samoa_laws.specs.lists.Messages.{alike_keys, same_message, first_places, first_of_keys}
 use Rattle.samoa_laws.specs.broadcasts.Abcast.{listed, up_to}
-use Rattle.samoa_laws.proofs.lists.Lists.{any_append, any_in, closed_unknown, firsts_in, firsts_new, firsts_old, in_any, in_firsts, or_none, begins_firsts}
+use Rattle.samoa_laws.proofs.lists.Lists.{and_true, any_append, any_in, closed_unknown, firsts_in, firsts_new, firsts_old, in_any, in_firsts, or_none, begins_firsts}
 
 -- ---- tests of messages
-and_true : (a b : Bool) → (a && b) ≡ true → (a ≡ true) × (b ≡ true)
-and_true true b e = (refl, e)
-and_true false b e = absurd (cc)
-
 same_number : (a : ℕ) → eqb a a ≡ true
 same_number a = eq-eqb a a refl
 

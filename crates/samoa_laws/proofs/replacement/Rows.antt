@@ -232,9 +232,6 @@ mark_keeps setup s begun marks n x h m l =
     change false true f = stays f
     change false false f = drain_keeps setup marked begun more (stays f)
 
-go_on_keeps : (setup : Setup) (s : ReplState) (x : ℕ) (begun marks : List Message) → Holds setup s begun marks → Holds setup (repl_go_on setup s x).0 begun marks
-go_on_keeps setup s x begun marks h = h
-
 cast_keeps : (setup : Setup) (s : ReplState) (kind value : ℕ) (begun marks : List Message) → Holds setup s begun marks
     → Holds setup (repl_cast setup s kind value).0 begun marks
 cast_keeps setup s kind value begun marks h =

@@ -23,6 +23,7 @@ use Rattle.samoa_laws.specs.lists.Messages.{first_places}
 use Rattle.samoa_laws.specs.streams.Ordered.{AreSubmitted, KeepsOrder, WasSubmitted, caller, up_in, ups_at}
 use Rattle.samoa_laws.specs.streams.Streams.{stream_at}
 use Rattle.samoa_laws.proofs.streams.Order.{comparable}
+use Rattle.samoa_laws.proofs.trace.Allowed.{allowed_at}
 
 abbrev script : Script
 script = record {
@@ -76,26 +77,6 @@ delivers : stream_at script exts 0 ≡ (0 ∷ 2 ∷ 0 ∷ 5 ∷ []) ∷ []
 delivers = refl
 
 -- ---- it is a group history
-abbrev Allowed : List Ext → Ext → Type 0
-Allowed before ext = IsFree ext.cause ⊎ (IsWire script before ext ⊎ IsRebinding script before ext)
-
-abbrev AllAllowed : List Ext → List Ext → Type 0
-AllAllowed before [] = ⊤
-AllAllowed before (ext ∷ later) = Allowed before ext × AllAllowed (before ++ ext ∷ []) later
-
-allowed_at : (start all : List Ext) → AllAllowed start all → (before : List Ext) (ext : Ext) (later : List Ext) → all ≡ before ++ ext ∷ later → Allowed (start ++ before) ext
-allowed_at start [] all [] ext later e = cc
-allowed_at start [] all (y ∷ before) ext later e = cc
-allowed_at start (x ∷ xs) all [] ext later e =
-    let same : x ≡ ext = cc in
-    subst (λ (xs : List Ext). Allowed xs ext) (sym (append-nil start)) (subst (Allowed start) same all.0)
-allowed_at start (x ∷ xs) all (y ∷ before) ext later e =
-    let both : x ∷ xs ≡ y ∷ (before ++ ext ∷ later) = e in
-    let head : x ≡ y = cc in
-    let tail : xs ≡ before ++ ext ∷ later = cc in
-    subst (λ (zs : List Ext). Allowed zs ext) (append_assoc start (x ∷ []) before ∙ ap (λ (z : Ext). start ++ z ∷ before) head)
-    (allowed_at (start ++ x ∷ []) xs all.1 before ext later tail)
-
 estimate_sent : IsWire script (turn ∷ []) estimate
 estimate_sent = record {
   cause = refl;
@@ -187,7 +168,7 @@ history = record {
       ),
     ),
   );
-  allowed = λ before ext later e. allowed_at [] exts (
+  allowed = allowed_at script [] exts (
     inl (inl refl),
     (
       inr (inl estimate_sent),
@@ -199,7 +180,7 @@ history = record {
         ),
       ),
     ),
-  ) before ext later e;
+  );
 }
 
 -- ---- what the broadcasts owe holds of it

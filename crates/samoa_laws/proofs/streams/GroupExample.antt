@@ -18,6 +18,7 @@ use Rattle.samoa_laws.proofs.streams.Order.{comparable}
 use Rattle.samoa_laws.specs.consensus.Decided.{decided_at}
 use Rattle.samoa_laws.proofs.consensus.Decided.{decisions}
 use Rattle.samoa_laws.proofs.streams.Owed.{are_submitted, keeps_order}
+use Rattle.samoa_laws.proofs.trace.Allowed.{allowed_at}
 
 abbrev script : Script
 script = record {
@@ -111,26 +112,6 @@ other_delivers : stream_at script exts 1 ≡ (1 ∷ 1 ∷ 0 ∷ 5 ∷ []) ∷ []
 other_delivers = refl
 
 -- ---- it is a group history
-abbrev Allowed : List Ext → Ext → Type 0
-Allowed before ext = IsFree ext.cause ⊎ (IsWire script before ext ⊎ IsRebinding script before ext)
-
-abbrev AllAllowed : List Ext → List Ext → Type 0
-AllAllowed before [] = ⊤
-AllAllowed before (ext ∷ later) = Allowed before ext × AllAllowed (before ++ ext ∷ []) later
-
-allowed_at : (start all : List Ext) → AllAllowed start all → (before : List Ext) (ext : Ext) (later : List Ext) → all ≡ before ++ ext ∷ later → Allowed (start ++ before) ext
-allowed_at start [] all [] ext later e = cc
-allowed_at start [] all (y ∷ before) ext later e = cc
-allowed_at start (x ∷ xs) all [] ext later e =
-    let same : x ≡ ext = cc in
-    subst (λ (xs : List Ext). Allowed xs ext) (sym (append-nil start)) (subst (Allowed start) same all.0)
-allowed_at start (x ∷ xs) all (y ∷ before) ext later e =
-    let both : x ∷ xs ≡ y ∷ (before ++ ext ∷ later) = e in
-    let head : x ≡ y = cc in
-    let tail : xs ≡ before ++ ext ∷ later = cc in
-    subst (λ (zs : List Ext). Allowed zs ext) (append_assoc start (x ∷ []) before ∙ ap (λ (z : Ext). start ++ z ∷ before) head)
-    (allowed_at (start ++ x ∷ []) xs all.1 before ext later tail)
-
 got_in : {A : Type 0} (xs : List A) (i : ℕ) (x : A) → slice_get xs i ≡ Some x → In x xs
 got_in [] i x e = absurd (cc)
 got_in {A} (y ∷ ys) zero x e = inl (inner e)
@@ -204,7 +185,7 @@ history = record {
   group = record { micros = refl; decls = refl; events = refl; changes = refl; does = tt };
   few = omega arith;
   known = (record { node = omega arith; cause = omega arith }, (record { node = omega arith; cause = omega arith }, (record { node = omega arith; cause = omega arith }, (record { node = omega arith; cause = omega arith }, (record { node = omega arith; cause = omega arith }, (record { node = omega arith; cause = omega arith }, (record { node = omega arith; cause = omega arith }, (record { node = omega arith; cause = omega arith }, (record { node = omega arith; cause = omega arith }, (record { node = omega arith; cause = omega arith }, (record { node = omega arith; cause = omega arith }, (record { node = omega arith; cause = omega arith }, (record { node = omega arith; cause = omega arith }, (record { node = omega arith; cause = omega arith }, (record { node = omega arith; cause = omega arith }, (record { node = omega arith; cause = omega arith }, (record { node = omega arith; cause = omega arith }, (record { node = omega arith; cause = omega arith }, tt))))))))))))))))));
-  allowed = λ before ext later e. allowed_at [] exts (inl (inl refl), (inr (inl heard_sent), (inr (inl estimate_sent), (inr (inl other_estimate_sent), (inr (inl proposal_sent), (inr (inl other_proposal_sent), (inr (inl vote_sent), (inr (inl other_vote_sent), (inr (inl told_sent), (inr (inr rebinds_asked), (inr (inr other_rebinds_asked), (inl (inl refl), (inr (inl asks_sent), (inr (inl tells_sent), (inr (inl other_tells_sent), (inl (inl refl), (inr (inl asks_again_sent), (inr (inl tells_again_sent), tt)))))))))))))))))) before ext later e;
+  allowed = allowed_at script [] exts (inl (inl refl), (inr (inl heard_sent), (inr (inl estimate_sent), (inr (inl other_estimate_sent), (inr (inl proposal_sent), (inr (inl other_proposal_sent), (inr (inl vote_sent), (inr (inl other_vote_sent), (inr (inl told_sent), (inr (inr rebinds_asked), (inr (inr other_rebinds_asked), (inl (inl refl), (inr (inl asks_sent), (inr (inl tells_sent), (inr (inl other_tells_sent), (inl (inl refl), (inr (inl asks_again_sent), (inr (inl tells_again_sent), tt))))))))))))))))));
 }
 
 -- ---- so the laws speak of it

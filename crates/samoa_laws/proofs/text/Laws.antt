@@ -114,10 +114,6 @@ deliveries_same v (ext ∷ exts) (ran ∷ rans) =
     ap (λ (ws : List (List ℕ)). (if ext.node.0 == v then ws else []) ++ deliveries_of 6 v exts rans) (delivered_same ran.world.entries)
     ∙ ap (λ (ws : List (List ℕ)). (if ext.node.0 == v then delivered_in ran.world.entries else []) ++ ws) (deliveries_same v exts rans)
 
--- a text that tells the streams of a group history
-pub TellsStreams : Script → List Ext → List ℕ → Type 0
-TellsStreams script exts text = (v : ℕ) → stream_in text v ≡ texts (stream_at script exts v)
-
 module _ (script : Script) (group : IsGroup script) (range : IsInRange script) (calls : Bool) where
   pub report_streams : (exts : List Ext) → IsGroupHistory script exts → (v : ℕ) → stream_in (report_of script calls exts) v ≡ texts (stream_at script exts v)
   report_streams exts history v =

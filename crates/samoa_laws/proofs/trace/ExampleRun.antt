@@ -8,6 +8,7 @@ use Rattle.samoa_model.specs.declared.handler.Dest.{Dest}
 use Rattle.samoa_serial.specs.Whole.{Ran}
 use Rattle.samoa_serial.specs.SerialRun.{opening_states, ran_of}
 use Rattle.samoa_laws.specs.trace.Group.{IsFree, IsGroupHistory, IsRebinding, IsWire, event, group_changes, group_decls, group_events, group_micros}
+use Rattle.samoa_laws.proofs.trace.Allowed.{allowed_at}
 
 script : Script
 script = record {
@@ -48,33 +49,14 @@ arrives = record {
   sent = record { ran = ran; served = inl refl; call = 4; to = Dest.All; here = tt; entry = inr (inr (inr (inr (inl refl)))) };
 }
 
-Allowed : List Ext → Ext → Type 0
-unfolding script
-Allowed before ext = IsFree ext.cause ⊎ (IsWire script before ext ⊎ IsRebinding script before ext)
-
-allowed : (before : List Ext) (ext : Ext) (later : List Ext) → cast ∷ wire ∷ [] ≡ before ++ ext ∷ later → Allowed before ext
-unfolding script cast wire Allowed
-allowed [] ext later e =
-    let both : cast ∷ wire ∷ [] ≡ ext ∷ later = e in
-    let is : cast ≡ ext = cc in
-    subst (λ (x : Ext). Allowed [] x) is (inl (inl refl))
-allowed (y ∷ []) ext later e =
-    let both : cast ∷ wire ∷ [] ≡ y ∷ ext ∷ later = e in
-    let first : cast ≡ y = cc in
-    let is : wire ≡ ext = cc in
-    subst (λ (z : Ext). Allowed (z ∷ []) ext) first (subst (λ (x : Ext). Allowed (cast ∷ []) x) is (inr (inl arrives)))
-allowed (y ∷ z ∷ ys) ext later e =
-    let len : 2 ≡ length (y ∷ z ∷ (ys ++ ext ∷ later)) = ap (λ (xs : List Ext). length xs) e in
-    absurd (omega (arith, len, length-append ys (ext ∷ later)))
-
 -- it is a group history
 history : IsGroupHistory script (cast ∷ wire ∷ [])
-unfolding script cast wire Allowed
+unfolding script cast wire
 history = record {
   group = record { micros = refl; decls = refl; events = refl; changes = refl; does = tt };
   few = omega arith;
   known = (record { node = omega arith; cause = omega arith }, (record { node = omega arith; cause = omega arith }, tt));
-  allowed = allowed;
+  allowed = allowed_at script [] (cast ∷ wire ∷ []) (inl (inl refl), (inr (inl arrives), tt));
 }
 
 -- what came to node 1 is relayed, and handed up there too

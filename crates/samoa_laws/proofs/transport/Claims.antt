@@ -165,7 +165,7 @@ event_for_owner (suc (suc zero)) le = refl
 event_for_owner (suc (suc (suc zero))) le = refl
 event_for_owner (suc (suc (suc (suc n)))) le = absurd (omega arith)
 
-begin_arg : (i j : ℕ) (a b : List ℕ) → Moment.Begin i a ≡ Moment.Begin j b → a ≡ b
+pub begin_arg : (i j : ℕ) (a b : List ℕ) → Moment.Begin i a ≡ Moment.Begin j b → a ≡ b
 begin_arg i j a b e = cc
 
 pub good_begin : (script : Script) (past : List HandlerStep) (v : ℕ) (e : ℕ) (arg : List ℕ) → IsGoodCall script past v e arg

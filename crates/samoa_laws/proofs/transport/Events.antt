@@ -32,6 +32,7 @@ use Rattle.samoa_laws.proofs.trace.Shapes.{AbCasts, AbHandsOn, AbNothing, AbProp
 use Rattle.samoa_laws.proofs.trace.Steps.{before, setting}
 use Rattle.samoa_laws.proofs.trace.Tables.{IsBound, table-holds}
 use Rattle.samoa_laws.proofs.trace.Worlds.{bound_stands, event_for, group_micro, group_setup, outcome_is, setup_from}
+use Rattle.samoa_laws.proofs.transport.Claims.{begin_arg}
 
 -- ---- no box asks for a call later
 abbrev pub NotLater : Outcome → Type 0
@@ -251,9 +252,6 @@ pub record CalledBy (past : List HandlerStep) (x : HandlerStep) (n : ℕ) (arg :
   pub there : In by past
   pub is : IsCaller by x n arg
 
-pub arg_same : (i j : ℕ) (arg other : List ℕ) → Moment.Begin i arg ≡ Moment.Begin j other → arg ≡ other
-arg_same i j arg other e = cc
-
 pub no_begin : (i j : ℕ) (arg frame : List ℕ) (reply : Reply) → Moment.Begin i arg ≡ Moment.Resume j frame reply → ⊥
 no_begin i j arg frame reply e = cc
 
@@ -263,7 +261,7 @@ pub called_is : (script : Script) (exts : List Ext) → IsGroup script → (past
 called_is script exts group past x f n at i arg is y c =
     let same : c.event.0 ≡ n = sym (stands_at script exts group past x f c.event x.call.handler c.bound) ∙ at in
     let event_is : c.event ≡ event n = ap event same in
-    let arg_is : c.arg ≡ arg = arg_same _ _ _ _ (sym c.moment ∙ is) in
+    let arg_is : c.arg ≡ arg = begin_arg _ _ _ _ (sym c.moment ∙ is) in
     record {
       comp = c.acts.comp ∙ sym f.follows.comp;
       node = c.acts.node ∙ sym f.follows.node;
