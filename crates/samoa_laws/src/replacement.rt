@@ -1,5 +1,6 @@
-//! The replacement layer of one node: its table, and the laws of every history of its box.
-//! What is said of a group rests on what the protocols below owe, `IsOrdered`.
+//! The replacement layer: its table, and the laws of every history of the box of one node; then of a group of such boxes over
+//! protocols that keep their order (`IsOrdered`). That the boxes of a group history are such is said in `streams` and `stack`.
+//! Each function is a law: its body is empty, and its contract says what is proved.
 ghost use Rattle.std.specs.Prelude.{◌≡◌, ◌⊎◌, ℕ, ◌<◌, ◌≤◌, ◌^◌, ◌++◌, ◌∷◌, [], List, Option, Some, None, length, map, false};
 ghost use Rattle.std.specs.List.{list_any};
 ghost use Rattle.samoa_model.specs.declared.handler.Moment.{Moment};
@@ -22,24 +23,24 @@ ghost use Rattle.samoa_laws.specs.replacement.Group.{Up, IsGroup, IsOrdered};
 /// What a step delivers, or asks to change, is the first message of the present epoch that its new state holds, and the
 /// state holds none that is old or delivered.
 pub fn hands_on()
-    ensures { (setup : Setup) (s : ReplState) (moment : Moment) (frame : List ℕ) → frame_of (repl_step setup s moment).1 ≡ Some frame → Ready setup (repl_step setup s moment).0 (repl_step setup s moment).1 }
+    ensures ready { (setup : Setup) (s : ReplState) (moment : Moment) (frame : List ℕ) → frame_of (repl_step setup s moment).1 ≡ Some frame → Ready setup (repl_step setup s moment).0 (repl_step setup s moment).1 }
 {}
 
 /// What a step marks is the message that the step before it handed on.
 pub fn marks_what_was_handed_on()
-    ensures { (setup : Setup) (s : Step) (earlier : List Step) → IsHistory setup (s ∷ earlier) → (frame : List ℕ) (reply : Reply) → s.moment ≡ Resume 1 frame reply → word frame 0 < 3 → (x : Message) × (marked_in s.old s.moment ≡ x ∷ []) × HandedOn setup earlier x }
+    ensures marked { (setup : Setup) (s : Step) (earlier : List Step) → IsHistory setup (s ∷ earlier) → (frame : List ℕ) (reply : Reply) → s.moment ≡ Resume 1 frame reply → word frame 0 < 3 → (x : Message) × (marked_in s.old s.moment ≡ x ∷ []) × HandedOn setup earlier x }
 {}
 
 /// Of each epoch up to the present one, the marked messages begin those that `deliver` began with: those whose pair was
 /// not marked in an earlier epoch, each at its first place.
 pub fn marks_what_began()
-    ensures { (setup : Setup) (steps : List Step) → IsHistory setup steps → length steps < 2 ^ 64 → (e : ℕ) → e ≤ (left_by steps).epoch → Begins (of_epoch e (marks steps)) (fresh (below e (marks steps)) (of_epoch e (begun steps))) }
+    ensures began { (setup : Setup) (steps : List Step) → IsHistory setup steps → length steps < 2 ^ 64 → (e : ℕ) → e ≤ (left_by steps).epoch → Begins (of_epoch e (marks steps)) (fresh (below e (marks steps)) (of_epoch e (begun steps))) }
 {}
 
 /// Two boxes that reached an epoch with the same marks below it, and whose messages of the epoch began with comparable
 /// first places, mark comparable messages of it.
 pub fn marks_of_one_epoch()
-    ensures { (setup other : Setup) (steps others : List Step) → IsHistory setup steps → IsHistory other others → length steps < 2 ^ 64 → length others < 2 ^ 64 → (e : ℕ) → e ≤ (left_by steps).epoch → e ≤ (left_by others).epoch → below e (marks steps) ≡ below e (marks others) → Comparable (first_places (of_epoch e (begun steps))) (first_places (of_epoch e (begun others))) → Comparable (of_epoch e (marks steps)) (of_epoch e (marks others)) }
+    ensures comparable { (setup other : Setup) (steps others : List Step) → IsHistory setup steps → IsHistory other others → length steps < 2 ^ 64 → length others < 2 ^ 64 → (e : ℕ) → e ≤ (left_by steps).epoch → e ≤ (left_by others).epoch → below e (marks steps) ≡ below e (marks others) → Comparable (first_places (of_epoch e (begun steps))) (first_places (of_epoch e (begun others))) → Comparable (of_epoch e (marks steps)) (of_epoch e (marks others)) }
 {}
 
 /// The marks of an epoch that was left end with its one change message, and those of the present epoch have none.
@@ -73,7 +74,7 @@ pub fn casts_of_a_box()
 
 /// A box never falls below an epoch that it reached, and what it marked of earlier epochs stays.
 pub fn settled_marks()
-    ensures { (setup : Setup) (later earlier : List Step) → IsHistory setup (later ++ earlier) → length (later ++ earlier) < 2 ^ 64 → (e : ℕ) → e ≤ (left_by earlier).epoch → (e ≤ (left_by (later ++ earlier)).epoch) × (below e (marks (later ++ earlier)) ≡ below e (marks earlier)) }
+    ensures settled { (setup : Setup) (later earlier : List Step) → IsHistory setup (later ++ earlier) → length (later ++ earlier) < 2 ^ 64 → (e : ℕ) → e ≤ (left_by earlier).epoch → (e ≤ (left_by (later ++ earlier)).epoch) × (below e (marks (later ++ earlier)) ≡ below e (marks earlier)) }
 {}
 
 /// The steps of a box within a trace are a history of it, in which what is given is resumed at once; and where the trace
@@ -87,7 +88,7 @@ pub fn box_of_a_trace()
 /// Where no step of the box lies within a call of `switched`, and its begins have the arguments that were asked for, the
 /// history is one of a box that is rebound so.
 pub fn rebound_in_a_trace()
-    ensures { (setup : Setup) (items : List Item) → IsTrace setup items → AllSwitched items → IsRebound (box_of items) }
+    ensures rebound { (setup : Setup) (items : List Item) → IsTrace setup items → AllSwitched items → IsRebound (box_of items) }
 {}
 
 /// In a group over protocols that keep their order, all boxes that reached an epoch have the same marks below it; of the
@@ -100,5 +101,5 @@ pub fn prefix_law()
 
 /// The prefix law of the streams, of boxes that are seen within a trace.
 pub fn prefix_law_of_traces()
-    ensures { (count : ℕ) (setup : ℕ → Setup) (items : ℕ → List Item) (ups : ℕ → List Up) (protocol : ℕ → List Message → ℕ) → ((v : ℕ) → length (setup v).changes ≡ count) → ((v : ℕ) → IsTrace (setup v) (items v)) → ((v : ℕ) → length (box_of (items v)) < 2 ^ 64) → IsOrdered (λ v. box_of (items v)) ups protocol → (v u : ℕ) → awaited (items v) ≡ None → awaited (items u) ≡ None → Comparable (stream (box_of (items v))) (stream (box_of (items u))) }
+    ensures streams { (count : ℕ) (setup : ℕ → Setup) (items : ℕ → List Item) (ups : ℕ → List Up) (protocol : ℕ → List Message → ℕ) → ((v : ℕ) → length (setup v).changes ≡ count) → ((v : ℕ) → IsTrace (setup v) (items v)) → ((v : ℕ) → length (box_of (items v)) < 2 ^ 64) → IsOrdered (λ v. box_of (items v)) ups protocol → (v u : ℕ) → awaited (items v) ≡ None → awaited (items u) ≡ None → Comparable (stream (box_of (items v))) (stream (box_of (items u))) }
 {}

@@ -1,5 +1,6 @@
-//! A group history is a list of admissions to the group stack: messages may be lost, repeated and reordered, and a node may
-//! stop. The laws hold of every one, and suppose nothing else.
+//! The theorem of the group stack: no two nodes disagree. It holds of every group history: messages may be lost, repeated and
+//! reordered, nodes may stop, computations may be cut by their budget. The laws suppose nothing else, and say nothing of progress.
+//! Each function is a law: its body is empty, and its contract says what is proved.
 ghost use Rattle.std.specs.Prelude.{◌≡◌, ◌++◌, ℕ, List, Some};
 ghost use Rattle.samoa_model.specs.declared.record.Ext.{Ext};
 ghost use Rattle.samoa_model.specs.declared.script.Script.{Script};

@@ -1,4 +1,6 @@
-//! What the replacement layer delivers at the nodes of a group history.
+//! What the replacement layer delivers at the nodes of a group history: the stream of a node is the list of the words that its
+//! layer, microprotocol 6, delivered, in order. What is supposed of the broadcasts below (`KeepsOrder`, `AreSubmitted`) is proved
+//! in `stack`. Each function is a law: its body is empty, and its contract says what is proved.
 ghost use Rattle.std.specs.Prelude.{◌≡◌, ◌++◌, ℕ, List};
 ghost use Rattle.samoa_model.specs.declared.record.Ext.{Ext};
 ghost use Rattle.samoa_model.specs.declared.script.Script.{Script};

@@ -1,4 +1,6 @@
-//! The trace of a serial run.
+//! The trace of a serial run, for any script: the list of all handler steps, the last one first, each with its computation, its
+//! call, what it was given, the states before and after it, what it answered, and whether that took effect. A cut step has none.
+//! Each function is a law: its body is empty, and its contract says what is proved.
 ghost use Rattle.std.specs.Prelude.{◌≡◌, ◌≤◌, ◌+◌, ◌*◌, ◌++◌, ℕ, List, length};
 ghost use Rattle.std.specs.List.{flat_map};
 ghost use Rattle.samoa_model.specs.declared.record.Ext.{Ext};

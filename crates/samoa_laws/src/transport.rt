@@ -1,4 +1,5 @@
-//! What is received in the group stack. Steps, lists and admissions are those of a group history.
+//! What is received in the group stack was sent, and what begins was called. Steps, lists and admissions are those of a group
+//! history. Each function is a law: its body is empty, and its contract says what is proved.
 ghost use Rattle.std.specs.Prelude.{◌≡◌, ◌≤◌, ◌⊎◌, ◌++◌, ◌∷◌, ◌<◌, ◌^◌, length, true, ℕ, List};
 ghost use Rattle.samoa_model.specs.declared.handler.Outcome.{Outcome};
 ghost use Rattle.samoa_model.specs.declared.ids.EventId.{EventId};

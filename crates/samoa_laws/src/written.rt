@@ -1,4 +1,6 @@
-//! What is told by a text: `told_at v name text` is what stands after the name in the `D` lines of the computations at node v.
+//! What the text of a report tells: `told_at v name text` is what stands after the name in the `D` lines of the computations at
+//! node v, on the text alone. It is what was delivered; so the laws of `stack` hold of what was written, whatever the status.
+//! Each function is a law: its body is empty, and its contract says what is proved.
 ghost use Rattle.std.specs.Prelude.{◌≡◌, ◌<◌, ◌⊎◌, ◌++◌, [], ℕ, Bool, List, Option, length};
 ghost use Rattle.std.specs.Io.KnownBytes.{Appends};
 ghost use Rattle.samoa_ends.specs.Pieces.{AppendsPrefix};

@@ -17,7 +17,7 @@ use Rattle.samoa_laws.proofs.trace.Worlds.{event_for}
 use Rattle.samoa_laws.proofs.lists.Lists.{comparable_begins}
 use Rattle.samoa_laws.proofs.lists.Messages.{first_places_begin}
 use Rattle.samoa_laws.specs.lists.Lists.{Begins, Comparable}
-use Rattle.samoa_laws.specs.lists.Messages.{first_places, same_message}
+use Rattle.samoa_laws.specs.lists.Messages.{first_places}
 use Rattle.samoa_laws.specs.broadcasts.Abcast.{IsAbcast, IsAbcastBox, listed}
 use Rattle.samoa_laws.specs.broadcasts.Boxes.{called_up}
 use Rattle.samoa_laws.specs.broadcasts.Seqcast.{IsSeqcast, IsSeqcastBox, told}

@@ -1,29 +1,21 @@
 -- What a box of a broadcast called upwards, read off a trace.
-use Rattle.std.proofs.Common.{◌≡◌, ◌≢◌, ◌⊎◌, ◌≤◌, ℕ, inl, inr, refl, sym, ap, subst, ◌∙◌, arith, List, [], ◌∷◌, ◌++◌, length, Bool, true, false, ◌==◌, eq-eqb, Option, Some, None}
-use Rattle.std.proofs.lemmas.Bool.Decides.{eqb_tells}
-use Rattle.std.specs.Prelude.{get_or}
-use Rattle.samoa_model.specs.Scripts.{no_micro}
+use Rattle.std.proofs.Common.{◌≡◌, ℕ, inl, inr, sym, ap, subst, ◌∙◌, List, [], ◌∷◌, Bool, true, false, Option, Some, None}
 use Rattle.samoa_model.specs.declared.handler.Moment.{Moment}
 use Rattle.samoa_model.specs.declared.handler.Outcome.{Outcome}
 use Rattle.samoa_model.specs.declared.handler.Reply.{Reply}
 use Rattle.samoa_model.specs.declared.record.Ext.{Ext}
-use Rattle.samoa_model.specs.declared.script.MicroDef.{MicroDef}
 use Rattle.samoa_model.specs.declared.script.Script.{Script}
-use Rattle.samoa_model.specs.declared.setup.Setup.{Setup}
 use Rattle.samoa_serial.specs.declared.call.Call.{Call}
 use Rattle.samoa_serial.specs.declared.message.Message.{Message}
-use Rattle.samoa_serial.specs.Kinds.{kind_step, opening}
 use Rattle.samoa_serial.specs.Rows.{message_at, message_words, word}
-use Rattle.samoa_serial.specs.SerialRun.{opening_states}
-use Rattle.samoa_serial.specs.State.{State}
 use Rattle.samoa_serial.specs.Lists.{In}
-use Rattle.samoa_laws.specs.trace.Trace.{HandlerStep, micro_of, state_at}
+use Rattle.samoa_laws.specs.trace.Trace.{HandlerStep}
 use Rattle.samoa_laws.specs.trace.Causes.{Cause, FollowsIn, IsTrace, Resumes, frame_of}
 use Rattle.samoa_laws.specs.trace.Group.{IsGroup, event}
 use Rattle.samoa_serial.proofs.ListLaws.{in_middle}
-use Rattle.samoa_laws.proofs.trace.Steps.{IsAt, IsAway, at_or_away, setting, state_at-away, state_at-here, trace-rest}
-use Rattle.samoa_laws.proofs.trace.Worlds.{group_micro, group_setup, setup_from, step_is}
-use Rattle.samoa_laws.specs.trace.Boxes.{BoxStep, IsHistory, left_by, noted}
+use Rattle.samoa_laws.proofs.trace.Steps.{IsAt, setting, trace-rest}
+use Rattle.samoa_laws.proofs.trace.Worlds.{group_setup}
+use Rattle.samoa_laws.specs.trace.Boxes.{BoxStep, left_by, noted}
 use Rattle.samoa_laws.specs.broadcasts.Boxes.{raised, raised_by}
 use Rattle.samoa_laws.proofs.lists.Lists.{in_end}
 use Rattle.samoa_serial.proofs.ListLaws.{in_left}

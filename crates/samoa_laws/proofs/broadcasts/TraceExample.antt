@@ -1,5 +1,5 @@
 -- A history of one node that the prover runs: a cast through abcast is decided and handed to the replacement layer.
-use Rattle.std.proofs.Common.{◌≡◌, ◌⊎◌, ℕ, inl, inr, refl, sym, ap, subst, arith, List, [], ◌∷◌, ◌++◌, drop, length, length-append, Option}
+use Rattle.std.proofs.Common.{◌≡◌, ℕ, inl, inr, refl, sym, subst, arith, List, [], ◌∷◌, drop, Option}
 use Rattle.samoa_model.specs.declared.handler.Dest.{Dest}
 use Rattle.samoa_model.specs.declared.record.Cause.{Cause}
 use Rattle.samoa_model.specs.declared.record.Ext.{Ext}
@@ -8,7 +8,7 @@ use Rattle.samoa_serial.specs.SerialRun.{ran_of, serial}
 use Rattle.samoa_model.specs.declared.script.Script.{Script}
 use Rattle.samoa_serial.specs.declared.message.Message.{Message}
 use Rattle.samoa_laws.specs.trace.Trace.{trace}
-use Rattle.samoa_laws.specs.trace.Group.{IsFree, IsGroupHistory, IsRebinding, IsWire, event, group_changes, group_decls, group_events, group_micros}
+use Rattle.samoa_laws.specs.trace.Group.{IsGroupHistory, event, group_changes, group_decls, group_events, group_micros}
 use Rattle.samoa_laws.specs.broadcasts.Boxes.{called_up}
 use Rattle.samoa_serial.specs.Lists.{In}
 use Rattle.samoa_laws.specs.broadcasts.Begun.{AreProposed, IsDecided, WasSubmitted, abcast_steps, begun, begun_by}

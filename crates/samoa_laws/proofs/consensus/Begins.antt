@@ -1,25 +1,14 @@
 -- A step of the trace that begins its handler.
-use Rattle.std.proofs.Common.{◌≡◌, ℕ, inl, inr, refl, sym, ap, subst, ◌∙◌, arith, List, [], ◌∷◌, ◌++◌, Bool, true, false, Option, Some, None}
+use Rattle.std.proofs.Common.{◌≡◌, ℕ, refl, List, ◌∷◌, ◌++◌}
 use Rattle.samoa_model.specs.declared.handler.Moment.{Moment}
-use Rattle.samoa_model.specs.declared.handler.Outcome.{Outcome}
-use Rattle.samoa_model.specs.declared.ids.HandlerId.{HandlerId}
 use Rattle.samoa_model.specs.declared.record.Ext.{Ext}
 use Rattle.samoa_model.specs.declared.script.Script.{Script}
-use Rattle.samoa_serial.specs.declared.message.Message.{Message}
-use Rattle.samoa_serial.specs.Lists.{In}
 use Rattle.samoa_laws.specs.trace.Trace.{HandlerStep, micro_of, trace}
-use Rattle.samoa_laws.specs.trace.Causes.{FollowsIn, IsTrace, frame_of}
+use Rattle.samoa_laws.specs.trace.Causes.{FollowsIn}
 use Rattle.samoa_laws.specs.trace.Group.{handler}
 use Rattle.samoa_laws.specs.transport.Transport.{BeginsAt}
 use Rattle.samoa_laws.proofs.transport.Carried.{begin_index, handler_is, moment_of}
-use Rattle.samoa_serial.proofs.ListLaws.{in_right}
-use Rattle.samoa_laws.proofs.trace.Points.{trace-is_trace}
-use Rattle.samoa_laws.proofs.trace.Shapes.{IsDone}
-use Rattle.samoa_laws.proofs.trace.Steps.{setting, trace-rest}
-use Rattle.samoa_laws.specs.trace.Boxes.{BoxStep, noted}
-use Rattle.samoa_laws.specs.broadcasts.Boxes.{raised, raised_by}
-use Rattle.samoa_laws.specs.consensus.Consensus.{box_of}
-use Rattle.samoa_laws.proofs.consensus.Passed.{noted_new}
+use Rattle.samoa_laws.proofs.trace.Steps.{setting}
 
 -- a step of the trace begins its handler
 pub begins_at : (script : Script) (exts : List Ext) (more : List HandlerStep) (x : HandlerStep) (past : List HandlerStep) → trace script exts ≡ more ++ x ∷ past → FollowsIn script exts past x

@@ -1,5 +1,5 @@
 -- Decisions agree, in the words of the states.
-use Rattle.std.proofs.Common.{◌≡◌, ℕ, refl, sym, List, ◌++◌, Some}
+use Rattle.std.proofs.Common.{◌≡◌, ℕ, refl, List, ◌++◌, Some}
 use Rattle.samoa_model.specs.declared.record.Ext.{Ext}
 use Rattle.samoa_model.specs.declared.script.Script.{Script}
 use Rattle.samoa_serial.specs.Rows.{message_of}

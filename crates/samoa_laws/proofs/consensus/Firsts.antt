@@ -1,5 +1,5 @@
 -- The first part of a group history is one.
-use Rattle.std.proofs.Common.{◌≡◌, ◌≤◌, sym, ap, subst, ◌∙◌, arith, append_assoc, List, [], ◌∷◌, ◌++◌, length, length-append}
+use Rattle.std.proofs.Common.{◌≡◌, ◌≤◌, sym, ap, subst, ◌∙◌, arith, append_assoc, List, ◌∷◌, ◌++◌, length, length-append}
 use Rattle.samoa_model.specs.Range.{IsExtOf}
 use Rattle.samoa_model.specs.declared.record.Ext.{Ext}
 use Rattle.samoa_model.specs.declared.script.Script.{Script}

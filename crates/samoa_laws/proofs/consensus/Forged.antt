@@ -1,6 +1,6 @@
 -- That the laws need their premise: a list of admissions in which each of two nodes receives a message that nobody sent, and they
 -- decide differently. All else that makes a group history holds of it.
-use Rattle.std.proofs.Common.{◌≡◌, ◌≤◌, ◌++◌, ℕ, refl, ap, arith, List, [], ◌∷◌, length, append-nil, sym, Some}
+use Rattle.std.proofs.Common.{◌≡◌, ◌≤◌, ℕ, refl, ap, arith, List, [], ◌∷◌, length, append-nil, sym, Some}
 use Rattle.samoa_model.specs.Range.{IsExtOf}
 use Rattle.samoa_model.specs.declared.record.Cause.{Cause}
 use Rattle.samoa_model.specs.declared.record.Ext.{Ext}

@@ -1,5 +1,5 @@
 -- Each row of the table keeps what holds of all boxes.
-use Rattle.std.proofs.Common.{◌≡◌, ℕ, ◌<◌, ◌≤◌, Bool, true, false, not, ◌||◌, ◌&&◌, nat_lt, nat_le, List, [], ◌∷◌, length, refl, ap, subst, arith, Option, Some, None, is_some, ◌==◌, if◌then◌else◌, eqb-true}
+use Rattle.std.proofs.Common.{◌≡◌, ℕ, ◌<◌, ◌≤◌, Bool, true, false, not, ◌||◌, nat_lt, nat_le, List, [], ◌∷◌, length, refl, ap, subst, arith, Option, Some, None, is_some, ◌==◌, if◌then◌else◌, eqb-true}
 use Rattle.std.specs.Prelude.{⊤, find, unwrap_or}
 use Rattle.std.proofs.lemmas.Bool.Decides.{nat_tests}
 use Rattle.samoa_serial.specs.Rows.{word, me, up, done, call, message_at, message_words, message_of, with_message}

@@ -1,5 +1,5 @@
 -- A group history of one node that decides: a cast, and the three letters of its round.
-use Rattle.std.proofs.Common.{◌≡◌, ◌⊎◌, ℕ, ◌+◌, inl, inr, refl, sym, arith, subst, List, [], ◌∷◌, ◌++◌, append-nil, append_assoc, Some}
+use Rattle.std.proofs.Common.{◌≡◌, ℕ, ◌+◌, inl, inr, refl, sym, arith, List, [], ◌∷◌, append-nil, Some}
 use Rattle.samoa_model.specs.declared.handler.Dest.{Dest}
 use Rattle.samoa_model.specs.declared.record.Cause.{Cause}
 use Rattle.samoa_model.specs.declared.record.Ext.{Ext}
@@ -7,8 +7,7 @@ use Rattle.samoa_model.specs.declared.script.Script.{Script}
 use Rattle.samoa_serial.specs.SerialRun.{ran_of, serial}
 use Rattle.samoa_serial.specs.Whole.{Ran}
 use Rattle.samoa_serial.specs.declared.message.Message.{Message}
-use Rattle.samoa_laws.specs.trace.Group.{IsFree, IsGroupHistory, IsRebinding, IsWire, event, group_changes, group_decls, group_events, group_micros}
-use Rattle.std.specs.Prelude.{⊤}
+use Rattle.samoa_laws.specs.trace.Group.{IsGroupHistory, IsWire, event, group_changes, group_decls, group_events, group_micros}
 use Rattle.samoa_laws.specs.lists.Lists.{Begins}
 use Rattle.samoa_laws.specs.consensus.AtBoxes.{cons_of}
 use Rattle.samoa_laws.specs.consensus.Decisions.{HasDecided, decision}

@@ -4,7 +4,7 @@ use Rattle.std.specs.List.{list_any}
 use Rattle.std.proofs.lemmas.Bool.{cond_both, or_left, or_right, false≢true}
 use Rattle.std.proofs.lemmas.List.{map-append}
 use Rattle.std.proofs.lemmas.List.Elements.{filter-append}
-use Rattle.samoa_serial.proofs.ListLaws.{in_middle, begins-append, begins-refl, begins-trans}
+use Rattle.samoa_serial.proofs.ListLaws.{in_middle, begins-trans}
 use Rattle.samoa_laws.specs.lists.Lists.{In, Begins, Comparable, among, firsts, unknown, IsApart, EndsOnlyIn}
 
 -- ---- tests

@@ -6,7 +6,7 @@ use Rattle.samoa_serial.specs.AbcastTable.{has_message}
 use Rattle.samoa_serial.specs.declared.keys.Key.{Key}
 use Rattle.samoa_serial.specs.declared.message.Message.{Message}
 use Rattle.samoa_serial.proofs.ListLaws.{begins-append, begins-refl, begins-trans}
-use Rattle.samoa_laws.specs.lists.Lists.{In, Begins, Comparable, among, unknown}
+use Rattle.samoa_laws.specs.lists.Lists.{In, Begins, Comparable, unknown}
 use Rattle.samoa_laws.specs.lists.Messages.{alike_keys, same_message, first_places, first_of_keys}
 use Rattle.samoa_laws.specs.broadcasts.Abcast.{listed, up_to}
 use Rattle.samoa_laws.proofs.lists.Lists.{and_true, any_append, any_in, closed_unknown, firsts_in, firsts_new, firsts_old, in_any, in_firsts, or_none, begins_firsts}

@@ -1,7 +1,7 @@
 -- A group history of two nodes that the prover runs: node 0 casts a change of the broadcast, both nodes estimate, adopt and vote, each
 -- decides and is rebound, and then two messages come through the sequencer. Node 1 has not heard the second one.
-use Rattle.std.proofs.Common.{◌≡◌, ◌⊎◌, ℕ, zero, suc, inl, inr, refl, sym, ap, subst, ◌∙◌, append_assoc, append-nil, arith, List, [], ◌∷◌, ◌++◌, Some}
-use Rattle.std.specs.Prelude.{⊤, slice_get}
+use Rattle.std.proofs.Common.{◌≡◌, ℕ, zero, suc, inl, inr, refl, sym, append-nil, arith, List, [], ◌∷◌, Some}
+use Rattle.std.specs.Prelude.{slice_get}
 use Rattle.samoa_model.specs.declared.handler.Dest.{Dest}
 use Rattle.samoa_model.specs.declared.record.Cause.{Cause}
 use Rattle.samoa_model.specs.declared.record.Entry.{Entry}
@@ -11,7 +11,7 @@ use Rattle.samoa_serial.specs.SerialRun.{ran_of, serial}
 use Rattle.samoa_serial.specs.Whole.{Ran}
 use Rattle.samoa_serial.specs.declared.message.Message.{Message}
 use Rattle.samoa_serial.specs.Lists.{In}
-use Rattle.samoa_laws.specs.trace.Group.{IsFree, IsGroupHistory, IsRebinding, IsTo, IsWire, change, event, group_changes, group_decls, group_events, group_micros}
+use Rattle.samoa_laws.specs.trace.Group.{IsGroupHistory, IsRebinding, IsTo, IsWire, change, event, group_changes, group_decls, group_events, group_micros}
 use Rattle.samoa_laws.specs.lists.Lists.{Comparable}
 use Rattle.samoa_laws.specs.streams.Streams.{stream_at}
 use Rattle.samoa_laws.proofs.streams.Order.{comparable}

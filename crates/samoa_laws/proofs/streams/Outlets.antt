@@ -1,5 +1,5 @@
 -- What the boxes of the group stack never ask for, and which of them calls which event.
-use Rattle.std.proofs.Common.{◌≡◌, ◌≢◌, ℕ, ◌+◌, zero, suc, inl, inr, refl, sym, subst, arith, List, [], ◌∷◌, length, Option, Some, None, not, ◌==◌, ◌||◌}
+use Rattle.std.proofs.Common.{◌≡◌, ◌≢◌, ℕ, ◌+◌, zero, suc, refl, sym, subst, arith, List, [], ◌∷◌, length, Option, Some, None, not, ◌==◌, ◌||◌}
 use Rattle.std.specs.Prelude.{⊤, nat_lt, slice_index_or}
 use Rattle.samoa_model.specs.Scripts.{no_micro}
 use Rattle.samoa_model.specs.declared.ids.EventId.{EventId}
@@ -17,8 +17,7 @@ use Rattle.samoa_serial.specs.ViewsTable as vi
 use Rattle.samoa_serial.specs.declared.message.Message.{Message}
 use Rattle.samoa_serial.specs.declared.message.Watch.{Watch}
 use Rattle.samoa_serial.specs.Lists.{Each}
-use Rattle.samoa_laws.proofs.trace.Shapes.{AbCasts, AbHandsOn, AbNothing, AbProposes, AbSays, Asks, AtPort, Casts, ConsAnnounces, ConsDecides, ConsNothing, ConsSays, ConsTells, Hands, HandsUp, IsDone, IsQuiet, LinkShape, Quiet, RbShape, Relays, Rests, Row, Sends, Silent, Talks, abcast-step, cons-step, either, either_outcome, fd-step, link-step, rbcast-step, repl-step, seqcast-step, views-step}
-use Rattle.samoa_laws.proofs.transport.Received.{no_box}
+use Rattle.samoa_laws.proofs.trace.Shapes.{AbCasts, AbHandsOn, AbNothing, AbProposes, AbSays, Casts, ConsAnnounces, ConsDecides, ConsNothing, ConsSays, ConsTells, HandsUp, IsDone, RbShape, Relays, Rests, Row, abcast-step, cons-step, either, either_outcome, rbcast-step}
 use Rattle.samoa_laws.proofs.trace.Worlds.{group_micro, group_setup, setup_from}
 
 -- ---- changes are asked for by the replacement layer alone

@@ -9,7 +9,6 @@ use Rattle.samoa_laws.specs.trace.Group.{IsGroupHistory}
 use Rattle.samoa_serial.proofs.ListLaws.{in_middle}
 use Rattle.samoa_laws.specs.lists.Lists.{Comparable}
 use Rattle.samoa_laws.specs.lists.Messages.{first_places}
-use Rattle.samoa_laws.specs.consensus.Decisions as agreed
 use Rattle.samoa_laws.specs.consensus.Decisions.{decision}
 use Rattle.samoa_laws.proofs.consensus.Agreed.{given_decision, valid}
 use Rattle.samoa_laws.specs.broadcasts.Begun as broadcasts

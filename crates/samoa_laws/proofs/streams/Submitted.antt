@@ -2,12 +2,11 @@
 use Rattle.std.proofs.Common.{◌≡◌, ◌≢◌, ◌⊎◌, ◌<◌, ◌≤◌, ◌^◌, ℕ, inl, inr, refl, sym, ap, subst, ◌∙◌, append_assoc, arith, List, [], ◌∷◌, ◌++◌, length, get_or, Option, Some, None, Bool, true, false, ◌==◌, if◌then◌else◌, eqb-true}
 use Rattle.std.specs.Prelude.{nat_lt, nat_le, filter}
 use Rattle.samoa_model.specs.Range.{IsExtOf}
-use Rattle.samoa_model.specs.Scripts.{root_of, table_of}
+use Rattle.samoa_model.specs.Scripts.{table_of}
 use Rattle.samoa_model.specs.declared.ids.EventId.{EventId}
 use Rattle.samoa_model.specs.declared.ids.HandlerId.{HandlerId}
 use Rattle.samoa_model.specs.declared.handler.Moment.{Moment}
 use Rattle.samoa_model.specs.declared.handler.Outcome.{Outcome}
-use Rattle.samoa_model.specs.declared.record.Cause.{Cause as Reason}
 use Rattle.samoa_model.specs.declared.record.Ext.{Ext}
 use Rattle.samoa_model.specs.declared.script.Script.{Script}
 use Rattle.samoa_model.specs.declared.setup.Setup.{Setup}
@@ -19,12 +18,11 @@ use Rattle.samoa_serial.specs.Lists.{Each, In}
 use Rattle.samoa_serial.proofs.RangeLaws.{each_begins}
 use Rattle.samoa_laws.specs.trace.Trace.{HandlerStep, micro_of}
 use Rattle.samoa_laws.specs.trace.Causes.{Cause, FollowsIn, IsTrace, Setting}
-use Rattle.samoa_laws.specs.trace.Group.{IsFree, IsGroupHistory, IsRebinding, IsWire, event, handler, rebindings_at}
-use Rattle.samoa_laws.proofs.transport.Accepted.{kind_port}
+use Rattle.samoa_laws.specs.trace.Group.{IsGroupHistory, handler, rebindings_at}
 use Rattle.samoa_serial.proofs.ListLaws.{each_in}
 use Rattle.samoa_laws.proofs.trace.Shapes.{Asks, AtPort, IsQuiet, Quiet, Row, either, either_outcome}
 use Rattle.samoa_laws.proofs.trace.Steps.{Before, IsAt, before, same_setting, setting}
-use Rattle.samoa_laws.proofs.trace.Worlds.{bound_stands, event_for, group_setup, outcome_is}
+use Rattle.samoa_laws.proofs.trace.Worlds.{bound_stands, event_for}
 use Rattle.samoa_laws.specs.replacement.Casts.{IsCast, IsRebound, handler_of, switches}
 use Rattle.samoa_laws.specs.replacement.History.{IsHistory, Step, left_by}
 use Rattle.samoa_laws.proofs.replacement.Casts.{casts_down, switches_count}
@@ -35,7 +33,7 @@ use Rattle.samoa_laws.proofs.trace.Boxes.{test_here}
 use Rattle.samoa_laws.proofs.streams.Boxes.{Made, box_state, made}
 use Rattle.samoa_laws.proofs.transport.Events.{calls_down, never_later, root_other}
 use Rattle.samoa_laws.proofs.streams.Rebound.{rebound_at}
-use Rattle.samoa_laws.proofs.streams.Switches.{rebinding_root, switch_count_in}
+use Rattle.samoa_laws.proofs.streams.Switches.{switch_count_in}
 use Rattle.samoa_laws.proofs.streams.Views.{goes_on_at, history_at, length-repl_at}
 
 -- ---- `ab_cast` is called by `cast` and `switched` alone

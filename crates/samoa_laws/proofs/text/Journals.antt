@@ -1,5 +1,5 @@
 -- The text of a journal tells nothing: each of its lines begins with a letter that neither heads a computation nor tells a delivery.
-use Rattle.std.proofs.Common.{◌≡◌, ℕ, refl, sym, subst, List, [], ◌∷◌, ◌++◌, length, codes, decimal}
+use Rattle.std.proofs.Common.{ℕ, refl, sym, subst, List, [], ◌∷◌, ◌++◌, length, codes, decimal}
 use Rattle.samoa_model.specs.declared.record.Step.{Step}
 use Rattle.samoa_serial.specs.Lists.{Each}
 use Rattle.samoa_report.specs.Steps.{journal_text, step_text, steps_text}

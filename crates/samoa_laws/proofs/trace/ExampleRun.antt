@@ -1,5 +1,5 @@
 -- A group history that the prover runs itself: a cast at node 0, and its message as it comes to node 1.
-use Rattle.std.proofs.Common.{◌≡◌, ◌⊎◌, ℕ, inl, inr, refl, ap, arith, subst, List, [], ◌∷◌, ◌++◌, map, length, length-append}
+use Rattle.std.proofs.Common.{◌≡◌, ℕ, inl, inr, refl, arith, List, [], ◌∷◌, map}
 use Rattle.samoa_model.specs.declared.record.Cause.{Cause}
 use Rattle.samoa_model.specs.declared.record.Ext.{Ext}
 use Rattle.samoa_model.specs.declared.script.Script.{Script}
@@ -7,7 +7,7 @@ use Rattle.samoa_laws.specs.trace.Trace.{HandlerStep, micro_of, trace}
 use Rattle.samoa_model.specs.declared.handler.Dest.{Dest}
 use Rattle.samoa_serial.specs.Whole.{Ran}
 use Rattle.samoa_serial.specs.SerialRun.{opening_states, ran_of}
-use Rattle.samoa_laws.specs.trace.Group.{IsFree, IsGroupHistory, IsRebinding, IsWire, event, group_changes, group_decls, group_events, group_micros}
+use Rattle.samoa_laws.specs.trace.Group.{IsGroupHistory, IsWire, event, group_changes, group_decls, group_events, group_micros}
 use Rattle.samoa_laws.proofs.trace.Allowed.{allowed_at}
 
 script : Script

@@ -1,33 +1,17 @@
 -- In the group stack a handler of an inner event begins where a microprotocol called that event.
-use Rattle.std.proofs.Common.{◌≡◌, ◌≤◌, ◌<◌, ◌⊎◌, ℕ, zero, suc, inl, inr, refl, sym, ap, subst, ◌∙◌, arith, List, [], ◌∷◌, length, get_or}
-use Rattle.std.specs.Prelude.{⊤, slice_index_or}
-use Rattle.samoa_model.specs.Range.{IsCauseOf, IsExtOf}
-use Rattle.samoa_model.specs.Scripts.{no_change, no_micro, root_of}
+use Rattle.std.proofs.Common.{◌≡◌, ◌≤◌, ℕ, refl, sym, ap, subst, ◌∙◌, arith, List, ◌∷◌}
 use Rattle.samoa_model.specs.declared.handler.Moment.{Moment}
-use Rattle.samoa_model.specs.declared.handler.Outcome.{Outcome}
-use Rattle.samoa_model.specs.declared.ids.EventId.{EventId}
 use Rattle.samoa_model.specs.declared.ids.HandlerId.{HandlerId}
-use Rattle.samoa_model.specs.declared.record.Cause as admitted
 use Rattle.samoa_model.specs.declared.record.Ext.{Ext}
-use Rattle.samoa_model.specs.declared.script.ChangeDef.{ChangeDef}
 use Rattle.samoa_model.specs.declared.script.Script.{Script}
-use Rattle.samoa_model.specs.declared.setup.Setup.{Setup}
-use Rattle.samoa_serial.specs.Kinds.{kind_step}
-use Rattle.samoa_serial.specs.Rows.{port_at}
-use Rattle.samoa_serial.specs.State.{State}
-use Rattle.samoa_serial.specs.Lists.{Each, In}
-use Rattle.samoa_laws.specs.trace.Trace.{HandlerStep, micro_of}
-use Rattle.samoa_laws.specs.trace.Causes.{Calls, Cause, Defers, FollowsIn, IsTrace}
-use Rattle.samoa_laws.specs.trace.Group.{IsFree, IsGroup, IsGroupHistory, IsRebinding, IsWire, event, event_for, group_changes}
+use Rattle.samoa_serial.specs.Lists.{In}
+use Rattle.samoa_laws.specs.trace.Trace.{HandlerStep}
+use Rattle.samoa_laws.specs.trace.Causes.{Calls, Cause, FollowsIn, IsTrace}
+use Rattle.samoa_laws.specs.trace.Group.{IsGroupHistory, event, event_for}
 use Rattle.samoa_laws.specs.transport.Transport.{BeginsAt}
-use Rattle.samoa_laws.specs.transport.Callers.{WasCalled, callers}
-use Rattle.samoa_laws.proofs.transport.Accepted.{kind_port}
-use Rattle.samoa_serial.proofs.ListLaws.{each_in, in_middle}
+use Rattle.samoa_laws.specs.transport.Callers.{WasCalled}
 use Rattle.samoa_laws.proofs.trace.Points.{trace-is_trace}
-use Rattle.samoa_laws.proofs.transport.Received.{no_box}
-use Rattle.samoa_laws.proofs.trace.Shapes.{AbCasts, AbHandsOn, AbNothing, AbProposes, AbSays, Asks, AtPort, Casts, ConsAnnounces, ConsDecides, ConsNothing, ConsSays, ConsTells, Hands, HandsUp, IsDone, IsQuiet, LinkShape, Quiet, RbShape, Relays, Rests, Sends, Silent, Talks, abcast-step, cons-step, fd-step, link-step, rbcast-step, repl-step, seqcast-step, views-step}
 use Rattle.samoa_laws.proofs.trace.Steps.{Before, before, setting, trace-rest}
-use Rattle.samoa_laws.proofs.trace.Worlds.{bound_stands, group_micro, group_setup, outcome_is, setup_from}
 use Rattle.samoa_laws.proofs.transport.Events.{IsCaller, called_is, calls_own, never_later, no_begin, not_root, stands_at}
 
 -- ---- what begins a handler of an inner event

@@ -3,7 +3,6 @@ use Rattle.std.proofs.Common.{◌≡◌, ◌+◌, ◌≢◌, ◌⊎◌, ◌≤�
 use Rattle.std.specs.Prelude.{⊤, slice_index_or}
 use Rattle.samoa_model.specs.Range.{IsCauseOf, IsExtOf}
 use Rattle.samoa_model.specs.Scripts.{no_change, no_micro, root_of}
-use Rattle.samoa_model.specs.declared.handler.Dest.{Dest}
 use Rattle.samoa_model.specs.declared.handler.Moment.{Moment}
 use Rattle.samoa_model.specs.declared.handler.Outcome.{Outcome}
 use Rattle.samoa_model.specs.declared.handler.Reply.{Reply}

@@ -6,7 +6,7 @@ use Rattle.samoa_model.specs.declared.script.Script.{Script}
 use Rattle.samoa_serial.specs.Rows.{message_at}
 use Rattle.samoa_serial.specs.declared.message.Message.{Message}
 use Rattle.samoa_serial.specs.Lists.{In}
-use Rattle.samoa_laws.specs.trace.Trace.{HandlerStep, micro_of, trace}
+use Rattle.samoa_laws.specs.trace.Trace.{HandlerStep, trace}
 use Rattle.samoa_laws.specs.trace.Group.{Asking, handler}
 use Rattle.samoa_laws.specs.lists.Lists.{Comparable}
 use Rattle.samoa_laws.specs.lists.Messages.{first_places}

@@ -1,5 +1,5 @@
 -- The streams of the group stack: what the replacement layer delivers at a node.
-use Rattle.std.specs.Prelude.{ℕ, Bool, ◌&&◌, ◌==◌, if◌then◌else◌, List, [], ◌∷◌, ◌++◌}
+use Rattle.std.specs.Prelude.{ℕ, Bool, ◌==◌, if◌then◌else◌, List, [], ◌∷◌, ◌++◌}
 use Rattle.samoa_model.specs.declared.record.Entry.{Entry}
 use Rattle.samoa_model.specs.declared.record.Ext.{Ext}
 use Rattle.samoa_model.specs.declared.script.Script.{Script}
@@ -7,7 +7,7 @@ use Rattle.samoa_model.specs.declared.setup.Setup.{Setup}
 use Rattle.samoa_serial.specs.State.{ReplState, State, OfRepl}
 use Rattle.samoa_serial.specs.Whole.{Ran}
 use Rattle.samoa_serial.specs.SerialRun.{serial}
-use Rattle.samoa_laws.specs.trace.Trace.{HandlerStep, micro_of}
+use Rattle.samoa_laws.specs.trace.Trace.{HandlerStep}
 use Rattle.samoa_laws.specs.trace.Group.{change, event}
 use Rattle.samoa_laws.specs.trace.Boxes.{box_step, box_steps, is_at}
 use Rattle.samoa_laws.specs.replacement.History.{Step, repl_opening}

@@ -2,4 +2,4 @@ use Rattle.samoa_laws.proofs.replacement.Histories as laws
 use Rattle.samoa_laws.proofs.replacement.marks_what_began.Goals as goal
 
 pub returns : goal.returns
-returns c = laws.marks_begun
+returns c = record { began = laws.marks_begun }

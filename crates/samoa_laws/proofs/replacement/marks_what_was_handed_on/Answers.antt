@@ -2,4 +2,4 @@ use Rattle.samoa_laws.proofs.replacement.Histories as laws
 use Rattle.samoa_laws.proofs.replacement.marks_what_was_handed_on.Goals as goal
 
 pub returns : goal.returns
-returns c = laws.mark_follows
+returns c = record { marked = laws.mark_follows }

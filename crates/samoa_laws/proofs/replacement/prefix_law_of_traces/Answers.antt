@@ -2,4 +2,4 @@ use Rattle.samoa_laws.proofs.replacement.Groups as laws
 use Rattle.samoa_laws.proofs.replacement.prefix_law_of_traces.Goals as goal
 
 pub returns : goal.returns
-returns c = laws.streams_of_traces
+returns c = record { streams = laws.streams_of_traces }
