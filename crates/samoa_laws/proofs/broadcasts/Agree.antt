@@ -28,9 +28,10 @@ use Rattle.samoa_laws.proofs.trace.Boxes.{steps-few, steps_of}
 use Rattle.samoa_laws.proofs.broadcasts.Boxes.{Upward}
 use Rattle.samoa_laws.proofs.broadcasts.Both.{abcast_box, seqcast_box}
 use Rattle.samoa_laws.proofs.transport.Events.{CalledAtOnce, at_once, calls_down, calls_up}
-use Rattle.samoa_laws.proofs.broadcasts.Histories.{abcast_any, abcast_history, part_trace, seqcast_any, seqcast_history, setup_is}
+use Rattle.samoa_laws.proofs.broadcasts.Histories.{abcast_any, abcast_history, part_trace, seqcast_any, seqcast_history}
 use Rattle.samoa_laws.proofs.broadcasts.Deliveries.{Delivers, called_is_begun, called_is_begun_at_end, calling, delivered_some, delivers_handler}
 use Rattle.samoa_laws.proofs.broadcasts.Submitted.{before_part, proposed_submitted, sequenced_submitted}
+use Rattle.samoa_laws.proofs.trace.Boxes.{setup_is}
 
 pub part_of_itself : (script : Script) (exts : List Ext) → IsPart script exts (trace script exts)
 part_of_itself script exts = record { more = []; split = refl }

@@ -19,9 +19,10 @@ use Rattle.samoa_laws.specs.trace.Boxes.{BoxStep, left_by, noted}
 use Rattle.samoa_laws.specs.broadcasts.Boxes.{raised, raised_by}
 use Rattle.samoa_laws.proofs.lists.Lists.{in_end}
 use Rattle.samoa_serial.proofs.ListLaws.{in_left}
-use Rattle.samoa_laws.proofs.trace.Boxes.{Box, Made, in_box, made_at, steps_of}
+use Rattle.samoa_laws.proofs.trace.Boxes.{Box, in_noted, noted_new, Made, in_box, made_at, steps_of}
 use Rattle.samoa_laws.specs.trace.Boxes.{box_step}
 use Rattle.samoa_laws.proofs.transport.Events.{no_begin}
+use Rattle.samoa_laws.proofs.transport.Carried.{begin_index, moment_of}
 
 -- a box that calls upwards, at the event 11, and goes on with a frame [1, x] only after such a call
 pub record Upward (S : Type 0) : Type 0 where
@@ -34,14 +35,6 @@ pub record Upward (S : Type 0) : Type 0 where
       → (box.table (group_setup nodes v box.number) s m).1 ≡ Outcome.Call (event 11) (message_words k) (1 ∷ x ∷ [])
 
 -- ---- a call upwards is counted
-in_noted : {A : Type 0} (xs : List A) (o : Option A) (counts : Bool) (e : A) → In e xs → In e (noted xs o counts)
-in_noted xs None counts e i = i
-in_noted xs (Some y) true e i = in_left e xs (y ∷ []) i
-in_noted xs (Some y) false e i = i
-
-pub noted_new : {A : Type 0} (xs : List A) (o : Option A) (counts : Bool) (e : A) → o ≡ Some e → counts ≡ true → In e (noted xs o counts)
-noted_new xs o counts e is right = rw (is, right) (in_end xs e)
-
 pub in_raised : {S : Type 0} (steps : List (BoxStep S)) (s : BoxStep S) (e : ℕ × Message) → In s steps → s.effective ≡ true → raised_by s.outcome ≡ Some e → In e (raised steps)
 in_raised [] s e there effective is = absurd there
 in_raised (t ∷ steps) s e (inl same) effective is =
@@ -52,19 +45,10 @@ in_raised (t ∷ steps) s e (inr there) effective is = in_noted (raised steps) (
 frame_same : (i j : ℕ) (frame other : List ℕ) (reply reply' : Reply) → Moment.Resume i frame reply ≡ Moment.Resume j other reply' → frame ≡ other
 frame_same i j frame other reply reply' e = cc
 
-index_same : (i j : ℕ) (arg other : List ℕ) → Moment.Begin i arg ≡ Moment.Begin j other → i ≡ j
-index_same i j arg other e = cc
-
 -- what begins is the handler's own
 pub own_index : (script : Script) (exts : List Ext) (past : List HandlerStep) (x : HandlerStep) → FollowsIn script exts past x → (i : ℕ) (arg : List ℕ)
     → x.moment ≡ Moment.Begin i arg → x.call.handler.index ≡ i
-own_index script exts past x f i arg is = go f.follows.cause
-  where
-    go : Cause (setting f) past x.call x.moment → x.call.handler.index ≡ i
-    go (Cause.Root r) = index_same _ _ _ _ (sym r.moment ∙ is)
-    go (Cause.Called y there c) = index_same _ _ _ _ (sym c.moment ∙ is)
-    go (Cause.Deferred y there d) = index_same _ _ _ _ (sym d.moment ∙ is)
-    go (Cause.Resumed r) = absurd (no_begin _ _ _ _ _ (sym is ∙ r.goes_on.moment))
+own_index script exts past x f i arg is = begin_index x.call.handler x.moment i arg (moment_of (setting f) past x.call x.moment f.follows.cause) is
 
 -- a call of the box that goes on with [1, x] called upwards with x
 pub resumed : {S : Type 0} (b : Upward S) (script : Script) (exts : List Ext) → IsGroup script → (v : ℕ) (past : List HandlerStep) → IsTrace script exts past

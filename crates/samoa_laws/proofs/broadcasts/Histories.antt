@@ -29,15 +29,13 @@ use Rattle.samoa_laws.proofs.broadcasts.NumbersKeep.{elsewhere_nothing}
 use Rattle.samoa_laws.specs.broadcasts.Begun.{IsDecided, IsPart, abcast_steps, seqcast_of, seqcast_steps}
 use Rattle.samoa_laws.specs.trace.Boxes.{box_step}
 use Rattle.samoa_laws.proofs.trace.Boxes.{Made, MayCome, in_box, is_history, made_at, steps_of}
-use Rattle.samoa_laws.proofs.broadcasts.Boxes.{noted_new, own_index, resumed, Upward}
+use Rattle.samoa_laws.proofs.broadcasts.Boxes.{own_index, resumed, Upward}
 use Rattle.samoa_laws.proofs.broadcasts.Both.{abcast_box, apart, seqcast_box}
 use Rattle.samoa_laws.proofs.transport.Carried.{handler_is}
+use Rattle.samoa_laws.proofs.trace.Boxes.{noted_new}
 
 pub part_trace : (script : Script) (exts : List Ext) (past : List HandlerStep) → IsPart script exts past → IsTrace script exts past
 part_trace script exts past part = trace-rest script exts part.more past (subst (IsTrace script exts) part.split (trace-is_trace script exts))
-
-pub setup_is : (script : Script) → IsGroup script → (v p : ℕ) → group_setup script.nodes v p ≡ setup_of script v p
-setup_is script group v p = ap (λ (ms : List MicroDef). setup_from script.nodes v (get_or ms p no_micro)) (sym group.micros)
 
 -- what a step of a box in the trace did
 pub record MadeThere {S : Type 0} (b : Upward S) (nodes v : ℕ) (x : HandlerStep) : Type 0 where

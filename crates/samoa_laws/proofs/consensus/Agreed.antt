@@ -26,17 +26,18 @@ use Rattle.samoa_laws.proofs.broadcasts.Maps.{message_of_in}
 use Rattle.samoa_laws.specs.consensus.Consensus.{IsConsensus, NodeStep, box_of, cons_opening, decided, decided_by}
 use Rattle.samoa_laws.specs.consensus.Consensus as consensus
 use Rattle.samoa_laws.proofs.consensus.ConsHistories.{is_decision, validity}
-use Rattle.samoa_laws.proofs.consensus.Passed.{noted_old, passed_on}
+use Rattle.samoa_laws.proofs.consensus.Passed.{passed_on}
 use Rattle.samoa_laws.specs.consensus.AtBoxes.{cons_of, cons_setup, cons_steps, node_step}
 use Rattle.samoa_laws.specs.consensus.Decisions.{HasDecided, WasProposed, decision}
 use Rattle.samoa_laws.proofs.consensus.Begins.{begins_at}
 use Rattle.samoa_laws.proofs.consensus.BoxHistories.{node_steps-append, node_steps-in, state_is}
 use Rattle.samoa_laws.proofs.consensus.ConsTrace.{cons_history, decided-in, decision-read, is_consensus, says, set_up}
+use Rattle.samoa_laws.proofs.trace.Boxes.{in_noted, noted_new}
 
 -- what was decided stays decided
 decided-more : (more steps : List (NodeStep ConsState)) (d : ℕ × Message) → In d (decided steps) → In d (decided (more ++ steps))
 decided-more [] steps d there = there
-decided-more (s ∷ more) steps d there = noted_old (decided (more ++ steps)) (decided_by s.step.outcome) d (decided-more more steps d there)
+decided-more (s ∷ more) steps d there = in_noted (decided (more ++ steps)) (decided_by s.step.outcome) true d (decided-more more steps d there)
 
 decided-later : (more past : List HandlerStep) (d : ℕ × Message) → In d (decided (cons_steps past)) → In d (decided (cons_steps (more ++ past)))
 decided-later more past d there =

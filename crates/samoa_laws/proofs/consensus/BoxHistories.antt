@@ -13,7 +13,7 @@ use Rattle.samoa_laws.specs.trace.Trace.{HandlerStep, micro_of, state_at}
 use Rattle.samoa_laws.specs.trace.Causes.{FollowsIn, IsTrace}
 use Rattle.samoa_laws.specs.trace.Group.{IsGroup}
 use Rattle.samoa_laws.specs.trace.Boxes.{BoxStep, IsStep, box_step, box_steps, left_by}
-use Rattle.samoa_laws.proofs.trace.Boxes.{Box, made_step, stands}
+use Rattle.samoa_laws.proofs.trace.Boxes.{Box, made_step, setup_is, stands}
 use Rattle.samoa_laws.proofs.trace.Worlds.{group_micro, group_setup, setup_from}
 use Rattle.samoa_laws.specs.consensus.Consensus.{NodeStep, box_of, cons_opening}
 use Rattle.samoa_laws.specs.consensus.AtBoxes.{cons_of, cons_setup, cons_steps, node_step, node_steps}
@@ -74,11 +74,6 @@ box_is {S} p of (x ∷ past) v = go (micro_of x == p) (box_is p of past v)
     go false ih = ih ∙ sym (other (x.node == v))
 
 -- ---- the box of consensus
-pub setup_is : (script : Script) → IsGroup script → (v p : ℕ) → setup_of script v p ≡ group_setup script.nodes v p
-setup_is script group v p =
-    let is : micro_at script p ≡ group_micro p = ap (λ (ms : List MicroDef). get_or ms p no_micro) group.micros in
-    ap (λ (m : MicroDef). setup_from script.nodes v m) is
-
 -- it has the state that its history leaves
 pub state_is : (script : Script) (exts : List Ext) → IsGroup script → (past : List HandlerStep) → IsTrace script exts past → (v : ℕ)
     → state_at (opening_states script) past v 3 ≡ OfCons (left_by cons_opening (box_of (cons_steps past) v))
@@ -92,5 +87,5 @@ pub is_step : (script : Script) (exts : List Ext) → IsGroup script → (past :
     → IsStep (cons_step (cons_setup script x.node)) cons_opening (box_of (cons_steps past) x.node) (node_step cons_of x).step
 is_step script exts group past trace x f micro =
     subst (λ (ss : List (BoxStep ConsState)). IsStep (cons_step (cons_setup script x.node)) cons_opening ss (box_step cons_of x)) (sym (box_is 3 cons_of past x.node))
-    (subst (λ (setup : Setup). IsStep (cons_step setup) cons_opening (box_steps cons_of x.node 3 past) (box_step cons_of x)) (sym (setup_is script group x.node 3))
+    (subst (λ (setup : Setup). IsStep (cons_step setup) cons_opening (box_steps cons_of x.node 3 past) (box_step cons_of x)) (setup_is script group x.node 3)
     (made_step cons_box script exts group x.node past trace x f (refl, sym micro)))

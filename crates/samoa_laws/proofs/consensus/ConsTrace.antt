@@ -26,29 +26,29 @@ use Rattle.samoa_laws.proofs.trace.Steps.{Before, before}
 use Rattle.samoa_laws.proofs.trace.Worlds.{group_micro, group_setup, outcome_is}
 use Rattle.samoa_laws.proofs.broadcasts.Outcomes.{same_event, same_words}
 use Rattle.samoa_laws.specs.consensus.Consensus.{ConsMay, IsConsensus, IsSetUp, NodeStep, announced, announced_by, decided, decided_by, letter_by, letters}
-use Rattle.samoa_laws.proofs.consensus.Passed.{noted_new, noted_old}
 use Rattle.samoa_laws.specs.consensus.AtBoxes.{cons_of, cons_setup, cons_steps, node_step}
 use Rattle.samoa_laws.proofs.consensus.Begins.{begins_at}
 use Rattle.samoa_laws.proofs.consensus.BoxHistories.{is_step, node_steps-in}
+use Rattle.samoa_laws.proofs.trace.Boxes.{in_noted, noted_new}
 
 -- ---- what a step said stands in the lists
 pub letter-in : (steps : List (NodeStep ConsState)) (s : NodeStep ConsState) (l : Letter) → In s steps → letter_by s.node s.step.outcome ≡ Some l → In l (letters steps)
 letter-in [] s l there is = absurd there
 letter-in (t ∷ steps) s l (inl same) is =
-    noted_new (letters steps) (letter_by t.node t.step.outcome) l (ap (λ (u : NodeStep ConsState). letter_by u.node u.step.outcome) (sym same) ∙ is)
-letter-in (t ∷ steps) s l (inr there) is = noted_old (letters steps) (letter_by t.node t.step.outcome) l (letter-in steps s l there is)
+    noted_new (letters steps) (letter_by t.node t.step.outcome) true l (ap (λ (u : NodeStep ConsState). letter_by u.node u.step.outcome) (sym same) ∙ is) refl
+letter-in (t ∷ steps) s l (inr there) is = in_noted (letters steps) (letter_by t.node t.step.outcome) true l (letter-in steps s l there is)
 
 pub announced-in : (steps : List (NodeStep ConsState)) (s : NodeStep ConsState) (d : ℕ × Message) → In s steps → announced_by s.step.outcome ≡ Some d → In d (announced steps)
 announced-in [] s d there is = absurd there
 announced-in (t ∷ steps) s d (inl same) is =
-    noted_new (announced steps) (announced_by t.step.outcome) d (ap (λ (u : NodeStep ConsState). announced_by u.step.outcome) (sym same) ∙ is)
-announced-in (t ∷ steps) s d (inr there) is = noted_old (announced steps) (announced_by t.step.outcome) d (announced-in steps s d there is)
+    noted_new (announced steps) (announced_by t.step.outcome) true d (ap (λ (u : NodeStep ConsState). announced_by u.step.outcome) (sym same) ∙ is) refl
+announced-in (t ∷ steps) s d (inr there) is = in_noted (announced steps) (announced_by t.step.outcome) true d (announced-in steps s d there is)
 
 pub decided-in : (steps : List (NodeStep ConsState)) (s : NodeStep ConsState) (d : ℕ × Message) → In s steps → decided_by s.step.outcome ≡ Some d → In d (decided steps)
 decided-in [] s d there is = absurd there
 decided-in (t ∷ steps) s d (inl same) is =
-    noted_new (decided steps) (decided_by t.step.outcome) d (ap (λ (u : NodeStep ConsState). decided_by u.step.outcome) (sym same) ∙ is)
-decided-in (t ∷ steps) s d (inr there) is = noted_old (decided steps) (decided_by t.step.outcome) d (decided-in steps s d there is)
+    noted_new (decided steps) (decided_by t.step.outcome) true d (ap (λ (u : NodeStep ConsState). decided_by u.step.outcome) (sym same) ∙ is) refl
+decided-in (t ∷ steps) s d (inr there) is = in_noted (decided steps) (decided_by t.step.outcome) true d (decided-in steps s d there is)
 
 -- ---- the calls of consensus, by event
 pub says : (script : Script) (exts : List Ext) → IsGroup script → (past : List HandlerStep) (x : HandlerStep) → IsTrace script exts past → In x past → micro_of x ≡ 3

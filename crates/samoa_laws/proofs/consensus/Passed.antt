@@ -16,23 +16,7 @@ use Rattle.samoa_laws.specs.lists.Lists.{In}
 use Rattle.samoa_laws.specs.trace.Boxes.{left_by, noted}
 use Rattle.samoa_laws.proofs.broadcasts.Maps.{HasMore, with_message_is}
 use Rattle.samoa_laws.specs.consensus.Consensus.{cons_opening, NodeStep, box_of, decided_by, decided, Follows, IsConsensus}
-
--- what stands last in a list that something was noted in
-pub noted_new : {A : Type 0} (xs : List A) (o : Option A) (x : A) → o ≡ Some x → In x (noted xs o true)
-noted_new xs o x is = subst (λ (q : Option _). In x (noted xs q true)) (sym is) (last xs)
-  where
-    last : (ys : List _) → In x (ys ++ x ∷ [])
-    last [] = inl refl
-    last (y ∷ ys) = inr (last ys)
-
-pub noted_old : {A : Type 0} (xs : List A) (o : Option A) (x : A) → In x xs → In x (noted xs o true)
-noted_old xs None x there = there
-noted_old xs (Some y) x there = first xs there
-  where
-    first : (ys : List _) → In x ys → In x (ys ++ y ∷ [])
-    first [] i = absurd i
-    first (z ∷ ys) (inl e) = inl e
-    first (z ∷ ys) (inr i) = inr (first ys i)
+use Rattle.samoa_laws.proofs.trace.Boxes.{in_noted, noted_new}
 
 -- a row leaves the decisions, or adds one and passes it on
 data Passing (s : ConsState) (r : ConsState × Outcome) : Type 0 where
@@ -95,7 +79,7 @@ pub passed_on : (n : ℕ) (setups : ℕ → Setup) (steps : List (NodeStep ConsS
     → message_of (left_by cons_opening (box_of steps v)).decisions i ≡ Some m → In (i, m) (decided steps)
 passed_on n setups [] history v i m is = absurd (cc (is))
 passed_on n setups (s ∷ earlier) history v i m is =
-    go (eqb_tells s.node v) (λ u before. noted_old (decided earlier) (decided_by s.step.outcome) (i, m) (passed_on n setups earlier history.1 u i m before))
+    go (eqb_tells s.node v) (λ u before. in_noted (decided earlier) (decided_by s.step.outcome) true (i, m) (passed_on n setups earlier history.1 u i m before))
   where
     f : Follows n setups earlier s
     f = history.0
@@ -103,7 +87,7 @@ passed_on n setups (s ∷ earlier) history v i m is =
     here : (message_of s.step.old.decisions i ≡ Some m) ⊎ (decided_by (co.cons_step (setups s.node) s.step.old s.step.moment).1 ≡ Some (i, m))
         → ((u : ℕ) → message_of (left_by cons_opening (box_of earlier u)).decisions i ≡ Some m → In (i, m) (decided (s ∷ earlier))) → In (i, m) (decided (s ∷ earlier))
     here (inl old) ih = ih s.node (ap (λ (x : ConsState). message_of x.decisions i) (sym f.step.old) ∙ old)
-    here (inr new) ih = noted_new (decided earlier) (decided_by s.step.outcome) (i, m) (ap decided_by f.step.outcome ∙ new)
+    here (inr new) ih = noted_new (decided earlier) (decided_by s.step.outcome) true (i, m) (ap decided_by f.step.outcome ∙ new) refl
 
     go : ((s.node == v) ≡ true) × (s.node ≡ v) ⊎ ((s.node == v) ≡ false) × (s.node ≡ v → ⊥)
         → ((u : ℕ) → message_of (left_by cons_opening (box_of earlier u)).decisions i ≡ Some m → In (i, m) (decided (s ∷ earlier))) → In (i, m) (decided (s ∷ earlier))

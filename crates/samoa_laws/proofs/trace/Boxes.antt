@@ -1,8 +1,8 @@
 -- The boxes of the group stack in a trace: which steps are made at a box, and that they are a history by its table.
-use Rattle.std.proofs.Common.{◌≡◌, ◌≢◌, ◌⊎◌, ◌≤◌, ℕ, inl, inr, refl, sym, ap, subst, ◌∙◌, arith, List, [], ◌∷◌, ◌++◌, length, Bool, true, false, ◌&&◌, ◌==◌, if◌then◌else◌, eq-eqb}
+use Rattle.std.proofs.Common.{◌≡◌, ◌≢◌, ◌⊎◌, ◌≤◌, ℕ, inl, inr, refl, sym, ap, subst, ◌∙◌, arith, List, [], ◌∷◌, ◌++◌, length, Bool, true, false, ◌&&◌, ◌==◌, if◌then◌else◌, eq-eqb, Option, Some, None}
 use Rattle.std.proofs.lemmas.Bool.Decides.{eqb_tells}
 use Rattle.std.specs.Prelude.{get_or}
-use Rattle.samoa_model.specs.Scripts.{no_micro}
+use Rattle.samoa_model.specs.Scripts.{no_micro, setup_of}
 use Rattle.samoa_model.specs.declared.handler.Moment.{Moment}
 use Rattle.samoa_model.specs.declared.handler.Outcome.{Outcome}
 use Rattle.samoa_model.specs.declared.record.Ext.{Ext}
@@ -16,7 +16,9 @@ use Rattle.samoa_serial.specs.Lists.{In}
 use Rattle.samoa_laws.specs.trace.Trace.{HandlerStep, micro_of, state_at}
 use Rattle.samoa_laws.specs.trace.Causes.{FollowsIn, IsTrace}
 use Rattle.samoa_laws.specs.trace.Group.{IsGroup}
-use Rattle.samoa_laws.specs.trace.Boxes.{BoxStep, IsHistory, IsStep, box_step, box_steps, is_at, left_by}
+use Rattle.samoa_laws.specs.trace.Boxes.{BoxStep, IsHistory, IsStep, box_step, box_steps, is_at, left_by, noted}
+use Rattle.samoa_serial.proofs.ListLaws.{in_left}
+use Rattle.samoa_laws.proofs.lists.Lists.{in_end}
 use Rattle.samoa_laws.proofs.trace.Steps.{IsAt, IsAway, at_or_away, state_at-away, state_at-here}
 use Rattle.samoa_laws.proofs.trace.Worlds.{group_micro, group_setup, setup_from, step_is}
 
@@ -37,6 +39,19 @@ pub record Box (S : Type 0) : Type 0 where
 -- the steps at the box at node v
 abbrev pub steps_of : {S : Type 0} → Box S → ℕ → List HandlerStep → List (BoxStep S)
 steps_of b v past = box_steps b.of v b.number past
+
+-- it is set up as the script says
+pub setup_is : (script : Script) → IsGroup script → (v p : ℕ) → group_setup script.nodes v p ≡ setup_of script v p
+setup_is script group v p = ap (λ (ms : List MicroDef). setup_from script.nodes v (get_or ms p no_micro)) (sym group.micros)
+
+-- ---- what is noted at the end of a list
+pub in_noted : {A : Type 0} (xs : List A) (o : Option A) (counts : Bool) (e : A) → In e xs → In e (noted xs o counts)
+in_noted xs None counts e i = i
+in_noted xs (Some y) true e i = in_left e xs (y ∷ []) i
+in_noted xs (Some y) false e i = i
+
+pub noted_new : {A : Type 0} (xs : List A) (o : Option A) (counts : Bool) (e : A) → o ≡ Some e → counts ≡ true → In e (noted xs o counts)
+noted_new xs o counts e is right = rw (is, right) (in_end xs e)
 
 -- ---- which steps they are
 pub record IsHere (v p : ℕ) (x : HandlerStep) : Type 0 where
