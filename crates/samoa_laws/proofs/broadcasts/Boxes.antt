@@ -1,5 +1,5 @@
 -- What a box of a broadcast called upwards, read off a trace.
-use Rattle.std.proofs.Common.{◌≡◌, ℕ, inl, inr, sym, ap, subst, ◌∙◌, List, [], ◌∷◌, Bool, true, false, Option, Some, None}
+use Rattle.std.proofs.Common.{◌≡◌, ℕ, inl, inr, sym, ap, subst, ◌∙◌, List, [], ◌∷◌, true, Some}
 use Rattle.samoa_model.specs.declared.handler.Moment.{Moment}
 use Rattle.samoa_model.specs.declared.handler.Outcome.{Outcome}
 use Rattle.samoa_model.specs.declared.handler.Reply.{Reply}
@@ -17,8 +17,6 @@ use Rattle.samoa_laws.proofs.trace.Steps.{IsAt, setting, trace-rest}
 use Rattle.samoa_laws.proofs.trace.Worlds.{group_setup}
 use Rattle.samoa_laws.specs.trace.Boxes.{BoxStep, left_by, noted}
 use Rattle.samoa_laws.specs.broadcasts.Boxes.{raised, raised_by}
-use Rattle.samoa_laws.proofs.lists.Lists.{in_end}
-use Rattle.samoa_serial.proofs.ListLaws.{in_left}
 use Rattle.samoa_laws.proofs.trace.Boxes.{Box, in_noted, noted_new, Made, in_box, made_at, steps_of}
 use Rattle.samoa_laws.specs.trace.Boxes.{box_step}
 use Rattle.samoa_laws.proofs.transport.Events.{no_begin}

@@ -1,12 +1,9 @@
 -- The boxes of the two broadcasts have their histories.
 use Rattle.std.proofs.Common.{◌≡◌, ◌≢◌, ◌⊎◌, ℕ, inl, inr, refl, sym, ap, subst, ◌∙◌, arith, append_assoc, List, [], ◌∷◌, ◌++◌, ◌==◌, Option, Some, None, true, false}
 use Rattle.std.proofs.lemmas.Bool.Decides.{eqb_tells}
-use Rattle.std.specs.Prelude.{get_or}
-use Rattle.samoa_model.specs.Scripts.{no_micro, setup_of}
 use Rattle.samoa_model.specs.declared.handler.Moment.{Moment}
 use Rattle.samoa_model.specs.declared.handler.Outcome.{Outcome}
 use Rattle.samoa_model.specs.declared.record.Ext.{Ext}
-use Rattle.samoa_model.specs.declared.script.MicroDef.{MicroDef}
 use Rattle.samoa_model.specs.declared.script.Script.{Script}
 use Rattle.samoa_serial.specs.declared.message.Message.{Message}
 use Rattle.samoa_serial.specs.Rows.{message_at, word}
@@ -20,7 +17,7 @@ use Rattle.samoa_serial.proofs.ListLaws.{in_right}
 use Rattle.samoa_laws.proofs.trace.Points.{trace-is_trace}
 use Rattle.samoa_laws.proofs.transport.Received.{heard}
 use Rattle.samoa_laws.proofs.trace.Steps.{IsAt, before, trace-rest}
-use Rattle.samoa_laws.proofs.trace.Worlds.{group_setup, setup_from}
+use Rattle.samoa_laws.proofs.trace.Worlds.{group_setup}
 use Rattle.samoa_laws.specs.trace.Boxes.{Anything, BoxStep, left_by, noted}
 use Rattle.samoa_laws.specs.broadcasts.Abcast.{AbcastMay, IsAbcast, IsAbcastBox}
 use Rattle.samoa_laws.specs.broadcasts.Seqcast.{IsSeqcast, IsSeqcastBox, SeqcastMay, told, told_by}

@@ -32,7 +32,7 @@ use Rattle.samoa_laws.specs.consensus.Decisions.{HasDecided, WasProposed, decisi
 use Rattle.samoa_laws.proofs.consensus.Begins.{begins_at}
 use Rattle.samoa_laws.proofs.consensus.BoxHistories.{node_steps-append, node_steps-in, state_is}
 use Rattle.samoa_laws.proofs.consensus.ConsTrace.{cons_history, decided-in, decision-read, is_consensus, says, set_up}
-use Rattle.samoa_laws.proofs.trace.Boxes.{in_noted, noted_new}
+use Rattle.samoa_laws.proofs.trace.Boxes.{in_noted}
 
 -- what was decided stays decided
 decided-more : (more steps : List (NodeStep ConsState)) (d : ℕ × Message) → In d (decided steps) → In d (decided (more ++ steps))

@@ -1,8 +1,6 @@
 -- The steps of consensus in a trace: at each node they are the history of its box.
-use Rattle.std.proofs.Common.{◌≡◌, ℕ, inl, inr, refl, sym, ap, subst, ◌∙◌, List, [], ◌∷◌, ◌++◌, Bool, true, false, ◌&&◌, ◌==◌, if◌then◌else◌, eq-eqb, get_or}
-use Rattle.samoa_model.specs.Scripts.{micro_at, no_micro, setup_of}
+use Rattle.std.proofs.Common.{◌≡◌, ℕ, inl, inr, refl, sym, ap, subst, ◌∙◌, List, [], ◌∷◌, ◌++◌, Bool, true, false, ◌&&◌, ◌==◌, if◌then◌else◌, eq-eqb}
 use Rattle.samoa_model.specs.declared.record.Ext.{Ext}
-use Rattle.samoa_model.specs.declared.script.MicroDef.{MicroDef}
 use Rattle.samoa_model.specs.declared.script.Script.{Script}
 use Rattle.samoa_model.specs.declared.setup.Setup.{Setup}
 use Rattle.samoa_serial.specs.ConsTable.{cons_step}
@@ -14,7 +12,6 @@ use Rattle.samoa_laws.specs.trace.Causes.{FollowsIn, IsTrace}
 use Rattle.samoa_laws.specs.trace.Group.{IsGroup}
 use Rattle.samoa_laws.specs.trace.Boxes.{BoxStep, IsStep, box_step, box_steps, left_by}
 use Rattle.samoa_laws.proofs.trace.Boxes.{Box, made_step, setup_is, stands}
-use Rattle.samoa_laws.proofs.trace.Worlds.{group_micro, group_setup, setup_from}
 use Rattle.samoa_laws.specs.consensus.Consensus.{NodeStep, box_of, cons_opening}
 use Rattle.samoa_laws.specs.consensus.AtBoxes.{cons_of, cons_setup, cons_steps, node_step, node_steps}
 

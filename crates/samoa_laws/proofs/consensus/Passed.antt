@@ -1,5 +1,5 @@
 -- A decision that stands in a box was passed on there.
-use Rattle.std.proofs.Common.{◌≡◌, ◌⊎◌, inl, inr, ℕ, Bool, true, false, not, ◌||◌, nat_lt, List, [], ◌∷◌, ◌++◌, refl, sym, ap, ◌∙◌, subst, Option, Some, None, is_some, ◌==◌, if◌then◌else◌}
+use Rattle.std.proofs.Common.{◌≡◌, ◌⊎◌, inl, inr, ℕ, Bool, true, false, not, ◌||◌, nat_lt, List, [], ◌∷◌, refl, sym, ap, ◌∙◌, Option, Some, None, is_some, ◌==◌, if◌then◌else◌}
 use Rattle.std.specs.Prelude.{find}
 use Rattle.std.proofs.lemmas.Bool.Decides.{eqb_tells}
 use Rattle.samoa_serial.specs.Rows.{word, message_at, message_of, with_message}
@@ -13,7 +13,7 @@ use Rattle.samoa_serial.specs.declared.message.Instance.{Instance}
 use Rattle.samoa_serial.specs.declared.message.Letter.{Letter}
 use Rattle.samoa_model.specs.declared.setup.Setup.{Setup}
 use Rattle.samoa_laws.specs.lists.Lists.{In}
-use Rattle.samoa_laws.specs.trace.Boxes.{left_by, noted}
+use Rattle.samoa_laws.specs.trace.Boxes.{left_by}
 use Rattle.samoa_laws.proofs.broadcasts.Maps.{HasMore, with_message_is}
 use Rattle.samoa_laws.specs.consensus.Consensus.{cons_opening, NodeStep, box_of, decided_by, decided, Follows, IsConsensus}
 use Rattle.samoa_laws.proofs.trace.Boxes.{in_noted, noted_new}
