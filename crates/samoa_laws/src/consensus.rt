@@ -63,8 +63,3 @@ pub fn consensus_steps_are_a_history()
     ensures given { (script : Script) (exts : List Ext) (past : List HandlerStep) (node : ℕ) (arg : List ℕ) → IsGroupHistory script exts
         → BeginsAt script exts past node (handler 4 2) arg → In (word arg 0, message_at arg 1) (decided (cons_steps past)) }
 {}
-
-/// The first part of a group history is a group history.
-pub fn first_parts_are_histories()
-    ensures history { (script : Script) (exts before : List Ext) → IsGroupHistory script exts → Begins before exts → IsGroupHistory script before }
-{}

@@ -1,5 +1,0 @@
-use Rattle.samoa_laws.proofs.consensus.Firsts.{first_part}
-use Rattle.samoa_laws.proofs.consensus.first_parts_are_histories.Goals as goal
-
-pub returns : goal.returns
-returns c = record { history = first_part }
