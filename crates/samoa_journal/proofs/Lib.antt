@@ -1,0 +1,4 @@
+pub mod Roomier
+pub mod Parts
+pub mod Opens
+pub mod Ends

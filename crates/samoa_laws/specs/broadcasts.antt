@@ -1,0 +1,4 @@
+pub mod Boxes
+pub mod Abcast
+pub mod Seqcast
+pub mod Begun
