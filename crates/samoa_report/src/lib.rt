@@ -9,10 +9,12 @@ ghost use Rattle.samoa_serial.specs.Lines.{ext_text, end_text, state_text, total
 mod entries;
 mod names;
 mod push;
+mod steps;
 #[cfg(test)]
 mod tests;
 
 pub use entries::entry_line;
+pub use steps::{journal_line, step_line};
 use names::{cause_letter, cause_name, micro_name, refusal_name};
 use push::{push_byte, push_number, push_text, push_words, whole_or_cut};
 use samoa_model::{Ending, Ext, MicroId, NoMemory, NodeId, Reply, Script, Words};
