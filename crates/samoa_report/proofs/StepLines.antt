@@ -131,3 +131,10 @@ same_steps (s ∷ a) (t ∷ b) x y p q nx ny e =
     let here : s ≡ t = k.0 in
     let there : a ≡ b = r.0 in
     ((λ i. here i ∷ there i), r.1)
+
+-- one step more
+pub more_steps : (steps : List Step) (step : Step) (after : List ℕ) → steps_text (steps ++ step ∷ []) ++ after ≡ steps_text steps ++ (step_text step ++ after)
+more_steps [] step after = append_assoc (step_text step) [] after
+more_steps (s ∷ steps) step after =
+    append_assoc (step_text s) (steps_text (steps ++ step ∷ [])) after ∙ ap (λ r. step_text s ++ r) (more_steps steps step after)
+    ∙ sym (append_assoc (step_text s) (steps_text steps) (step_text step ++ after))
