@@ -148,7 +148,7 @@ L 4294967295\n";
     Ok(())
 }
 
-/// The lines of each kind of step, which are read back.
+/// The lines of each kind of step.
 #[test]
 fn prints_a_journal(rt: HostRuntime) -> Result<(), Fail> {
     let steps = [
