@@ -7,17 +7,23 @@ ghost use Rattle.samoa_serial.specs.LimitedReport.{limit_text};
 ghost use Rattle.samoa_serial.specs.Lines.{ext_text, end_text, state_text, total_text};
 
 mod entries;
+mod fault;
+mod laws;
 mod names;
 mod push;
+mod reading;
 mod steps;
 #[cfg(test)]
 mod tests;
 
 pub use entries::entry_line;
-pub use steps::{journal_line, step_line};
+pub use fault::StepsFault;
+pub use laws::{no_steps_beside_a_bad_line, one_bad_line, one_list_of_steps};
 use names::{cause_letter, cause_name, micro_name, refusal_name};
 use push::{push_byte, push_number, push_text, push_words, whole_or_cut};
+pub use reading::read_steps;
 use samoa_model::{Ending, Ext, MicroId, NoMemory, NodeId, Reply, Script, Words};
+pub use steps::{journal_line, step_line};
 
 /// Appends the first line of a computation: `E`, or `B` for a change of bindings, the computation's number, its
 /// tick and node, the name of the event or the change, and the arguments.
