@@ -36,7 +36,6 @@ use Rattle.samoa_core.specs.Admission.{admitted, raised, started, steps_of, turn
 use Rattle.samoa_core.specs.Known.{decl_number}
 use Rattle.samoa_core.specs.Later.{IsStill}
 use Rattle.samoa_core.specs.Room.{spare_of, spare_when, to_come}
-use Rattle.samoa_core.specs.Running.{turn_of}
 use Rattle.samoa_core.specs.declared.running.Running.{Running}
 use Rattle.samoa_core.specs.declared.running.Interval.{Interval}
 use Rattle.samoa_core.specs.Since.{cleared_comps}

@@ -1,5 +1,5 @@
 -- What is read of computations that have ended, and the clear.
-use Rattle.std.proofs.Common.{arith, ◌≡◌, ℕ, ◌+◌, ◌-◌, ◌*◌, ◌<◌, ◌≤◌, min, refl, sym, ap, subst, ◌∙◌, List, [], ◌∷◌, ◌++◌, length, Bool, true, Option, Some, None}
+use Rattle.std.proofs.Common.{arith, ◌≡◌, ℕ, ◌-◌, ◌*◌, ◌<◌, ◌≤◌, min, refl, sym, ap, subst, ◌∙◌, List, [], ◌∷◌, ◌++◌, length, true, Option, Some}
 use Rattle.samoa_model.specs.declared.record.Ending.{Ending}
 use Rattle.samoa_calls.specs.Handed.{ending_at, ending_of}
 use Rattle.samoa_serial.specs.Calls.{Computation}

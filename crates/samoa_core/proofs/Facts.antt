@@ -1,5 +1,5 @@
 -- What is known of a core by its invariant.
-use Rattle.std.proofs.Common.{arith, ◌≡◌, ◌≢◌, ◌⊎◌, inl, inr, ◌↔◌, ℕ, ◌-◌, ◌<◌, ◌≤◌, refl, sym, ap, subst, ◌∙◌, List, [], ◌∷◌, length, Bool, true, false, not, Option, Some, None}
+use Rattle.std.proofs.Common.{arith, ◌≡◌, ◌⊎◌, inl, inr, ◌↔◌, ℕ, ◌-◌, ◌<◌, ◌≤◌, refl, sym, ap, subst, ◌∙◌, List, [], ◌∷◌, length, Bool, true, false, Option, Some, None}
 use Rattle.std.specs.Prelude.{option_map}
 use Rattle.std.specs.Option.{IfSome}
 use Rattle.samoa_model.specs.Allowed.{weight}
@@ -13,7 +13,6 @@ use Rattle.samoa_serial.specs.Calls.{Computation}
 use Rattle.samoa_calls.specs.Handed.{next_moment}
 use Rattle.samoa_invariant.specs.Inv.{Invariant, IsDone, IsOutRightly}
 use Rattle.samoa_invariant.specs.Play.{Play, point}
-use Rattle.samoa_invariant.specs.Slots.{put_at}
 use Rattle.samoa_invariant.specs.State as model
 use Rattle.samoa_invariant.specs.Runs.{IsDue, IsRun, Trace, ext_at, play, state, with_step}
 use Rattle.samoa_invariant.proofs.preservation.Accepts.{meets_declared}
@@ -125,7 +124,7 @@ some-active [] c m e = cc
 some-active (a ∷ rest) c m e = (a, rest, refl)
 
 -- what is out for a computation hasn't ended
-ended-home : (P : Play) (core : model.Core) (k v p : ℕ) → Invariant P core → core.out v p ≡ Some k → core.ended k ≡ true → ⊥
+pub ended-home : (P : Play) (core : model.Core) (k v p : ℕ) → Invariant P core → core.out v p ≡ Some k → core.ended k ≡ true → ⊥
 ended-home P core k v p i out ended =
     let o : IsOutRightly P core v p k = i.out v p k out in
     let d : IsDone P core k = i.ended k o.admitted ended in

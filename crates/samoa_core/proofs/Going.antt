@@ -1,11 +1,9 @@
 -- What each step keeps of the fields of a core.
-use Rattle.std.proofs.Common.{arith, ◌≡◌, ◌≢◌, ◌⊎◌, ◌↔◌, inl, inr, ℕ, ◌+◌, ◌-◌, ◌*◌, ◌<◌, ◌≤◌, refl, sym, ap, subst, ◌∙◌, List, [], ◌∷◌, length, get_or, set, Bool, true, false, Option, Some, None}
+use Rattle.std.proofs.Common.{arith, ◌≡◌, ◌≢◌, ◌⊎◌, ◌↔◌, ℕ, ◌+◌, ◌-◌, ◌*◌, ◌<◌, ◌≤◌, refl, sym, ap, subst, ◌∙◌, List, ◌∷◌, length, get_or, set, Bool, true, false, Option, Some, None}
 use Rattle.std.specs.Prelude.{is_some, slice_get}
 use Rattle.std.specs.Option.{IfSome}
 use Rattle.std.proofs.lemmas.Nat.{mul-le}
-use Rattle.samoa_model.specs.Allowed.{weight}
-use Rattle.samoa_model.specs.Range.{IsExtOf}
-use Rattle.samoa_model.specs.Scripts.{Table, decl_at, decl_of}
+use Rattle.samoa_model.specs.Scripts.{Table, decl_at}
 use Rattle.samoa_model.specs.declared.handler.Moment.{Moment}
 use Rattle.samoa_model.specs.declared.handler.Outcome.{Outcome}
 use Rattle.samoa_model.specs.declared.ids.MicroId.{MicroId}
@@ -14,7 +12,7 @@ use Rattle.samoa_model.specs.declared.record.Step.{Step}
 use Rattle.samoa_model.specs.declared.script.Script.{Script}
 use Rattle.samoa_bind.specs.Bound.{table_at}
 use Rattle.samoa_calls.specs.Held.{handlers_of}
-use Rattle.samoa_calls.specs.Handed.{AreNamed, IsCounted, IsNamed, ended_at}
+use Rattle.samoa_calls.specs.Handed.{AreNamed, IsNamed, ended_at}
 use Rattle.samoa_serial.specs.declared.call.Active.{Active}
 use Rattle.samoa_serial.specs.declared.call.Call.{Call}
 use Rattle.samoa_serial.specs.Alone.{next_step}
@@ -30,7 +28,6 @@ use Rattle.samoa_invariant.specs.Runs.{IsDue, Trace, after_step as stepped, ext_
 use Rattle.samoa_invariant.proofs.preservation.Bounds.{head_is}
 use Rattle.samoa_invariant.proofs.preservation.Slots.{put-else, put-here, put_at-else, put_at-here}
 use Rattle.samoa_invariant.proofs.representation.Traces.{invariant}
-use Rattle.std.proofs.lemmas.Bool.{cases_eq}
 use Rattle.samoa_versions.specs.Counters.{Counters, IsTurn}
 use Rattle.samoa_core.specs.Forms.{risen}
 use Rattle.samoa_core.specs.Grids.{Grid}

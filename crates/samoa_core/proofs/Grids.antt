@@ -1,5 +1,5 @@
 -- Lists that hold the values of functions, and lists of which one item is changed.
-use Rattle.std.proofs.Common.{◌≡◌, ◌≢◌, ◌⊎◌, inl, inr, ℕ, zero, suc, ◌+◌, ◌*◌, ◌<◌, refl, sym, ap, subst, ◌∙◌, List, [], ◌∷◌, ◌++◌, length, length-set, get_or, set, Some, length-append, replicate, arith}
+use Rattle.std.proofs.Common.{◌≡◌, ◌≢◌, ◌⊎◌, inl, inr, ℕ, zero, suc, ◌+◌, ◌*◌, ◌<◌, refl, sym, ap, subst, ◌∙◌, List, [], ◌∷◌, ◌++◌, length, length-set, set, Some, length-append, replicate, arith}
 use Rattle.std.specs.Prelude.{slice_get}
 use Rattle.std.proofs.lemmas.Nat.{mul-add-lt, same_from_place}
 use Rattle.std.proofs.lemmas.Bool.{cases_eq}
@@ -7,7 +7,7 @@ use Rattle.std.proofs.lemmas.List.{length-replicate}
 use Rattle.samoa_invariant.specs.Slots.{At, put_at}
 use Rattle.samoa_invariant.proofs.preservation.Slots.{put_at-else, put_at-here, slot_or_not}
 use Rattle.samoa_serial.proofs.SerialLaws.{slice_get_left}
-use Rattle.samoa_core.specs.Grids.{Grid, Row}
+use Rattle.samoa_core.specs.Grids.{Grid}
 
 set-same : {A : Type 0} (xs : List A) (i : ℕ) (x : A) → i < length xs → slice_get (set xs i x) i ≡ Some x
 set-same [] i x lt = absurd (omega (arith, lt))

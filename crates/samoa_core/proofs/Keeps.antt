@@ -17,7 +17,7 @@ use Rattle.samoa_invariant.specs.State as model
 use Rattle.samoa_invariant.specs.Runs.{IsDue, IsRun, Trace, after_step, ext_at, model_step, opening_trace, play, state}
 use Rattle.samoa_invariant.proofs.representation.Scripted.{get_is}
 use Rattle.samoa_invariant.proofs.representation.Traces.{invariant, is_run-with_step, opening_is_run, state-step}
-use Rattle.samoa_core.specs.Grids.{Grid, Row}
+use Rattle.samoa_core.specs.Grids.{Grid}
 use Rattle.samoa_core.specs.Known.{decl_number}
 use Rattle.samoa_core.specs.Places.{slot_in}
 use Rattle.samoa_core.specs.Room.{to_come}
@@ -26,7 +26,7 @@ use Rattle.samoa_core.specs.declared.running.Running.{Running}
 use Rattle.samoa_core.specs.declared.running.Interval.{Interval}
 use Rattle.samoa_core.specs.Since.{cleared_comps}
 use Rattle.samoa_core.specs.Slots.{Slotted, row_of, rows_of, set_up_at}
-use Rattle.samoa_core.specs.Kept.{AreTables, Fields, HasTable, Holds, Kept, Runs, trace_of}
+use Rattle.samoa_core.specs.Kept.{AreTables, Fields, Holds, Kept, Runs, trace_of}
 use Rattle.samoa_core.proofs.Counts.{away-none}
 use Rattle.samoa_core.proofs.Grids.{grid-none, grid-row, grid-zeros, item_at, none_yet}
 use Rattle.samoa_core.proofs.Rules.{first-epochs, first-present, tables-first}

@@ -1,5 +1,5 @@
 -- What a core that goes on keeps.
-use Rattle.std.proofs.Common.{◌≡◌, refl, sym, ap, ◌∙◌, List, [], ◌∷◌, ◌++◌, append_assoc}
+use Rattle.std.proofs.Common.{◌≡◌, ap, ◌∙◌, List, [], ◌∷◌, ◌++◌, append_assoc}
 use Rattle.samoa_model.specs.declared.record.Step.{Step}
 use Rattle.samoa_invariant.specs.Runs.{IsRun, Trace, state, with_step}
 use Rattle.samoa_invariant.specs.Settling.{IsUnmoved, with_steps}

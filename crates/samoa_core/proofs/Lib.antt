@@ -19,3 +19,4 @@ pub mod Answered
 pub mod Going
 pub mod Admitted
 pub mod Passes
+pub mod Asked

@@ -1,5 +1,5 @@
 -- What is asked of a declaration for a release.
-use Rattle.std.proofs.Common.{◌≡◌, ap, sym, ◌∙◌, refl, List, [], ◌∷◌, ◌++◌, map}
+use Rattle.std.proofs.Common.{◌≡◌, ap, refl, List, [], ◌∷◌, ◌++◌, map}
 use Rattle.samoa_model.specs.Paths.{handlers_by}
 use Rattle.samoa_model.specs.Range.{IsDeclOf}
 use Rattle.samoa_model.specs.Scripts.{Table, resolve}

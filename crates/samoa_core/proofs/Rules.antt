@@ -1,5 +1,5 @@
 -- What a script in range makes of the rules of an admission.
-use Rattle.std.proofs.Common.{arith, ◌≡◌, ◌<◌, ◌≤◌, ◌+◌, ◌⊎◌, inl, inr, ℕ, zero, suc, List, [], ◌∷◌, length, replicate, get_or, ap, refl, ◌∙◌, ◌==◌, if◌then◌else◌, Bool, true, false}
+use Rattle.std.proofs.Common.{arith, ◌≡◌, ◌<◌, ◌≤◌, ◌+◌, ◌⊎◌, inl, inr, ℕ, zero, suc, List, [], ◌∷◌, length, replicate, get_or, ap, refl, ◌∙◌}
 use Rattle.std.proofs.lemmas.Bool.{cases_lt}
 use Rattle.std.proofs.lemmas.List.{length-map, length-replicate}
 use Rattle.std.proofs.lemmas.List.Elements.{All-get_or}
@@ -12,13 +12,10 @@ use Rattle.samoa_core.proofs.Names.{counted}
 use Rattle.samoa_model.specs.declared.record.Cause.{Cause}
 use Rattle.samoa_model.specs.declared.record.Cause.TheVariants.{Event, Change}
 use Rattle.samoa_model.specs.declared.record.Ext.{Ext}
-use Rattle.samoa_model.specs.declared.script.ChangeDef.{ChangeDef}
 use Rattle.samoa_model.specs.declared.script.DeclDef.{DeclDef}
 use Rattle.samoa_model.specs.declared.script.Script.{Script}
 use Rattle.samoa_model.specs.Range.{IsInRange, IsExtOf, IsCauseOf, IsChangeInRange, IsDeclOf, IsEventInRange, IsEventOf}
-use Rattle.samoa_model.specs.Scripts.{Table, rebound, caused, change_at, decl_of, event_at, root_of, no_change, no_decl, no_event, first_table}
-use Rattle.samoa_invariant.specs.Play.{table_at, table_of}
-use Rattle.samoa_invariant.specs.Runs.{Trace, ext_at, play}
+use Rattle.samoa_model.specs.Scripts.{Table, change_at, decl_of, event_at, root_of, no_change, no_decl, no_event, first_table}
 use Rattle.samoa_core.specs.Known.{decl_number}
 
 pub decl-within : (script : Script) (ext : Ext) → IsInRange script → IsExtOf script ext → decl_number script ext < length script.decls

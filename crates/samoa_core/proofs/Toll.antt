@@ -11,7 +11,6 @@ use Rattle.samoa_invariant.specs.State.{CanLeave, Core, IsEnabled, IsNextAt, Ste
 use Rattle.samoa_invariant.proofs.measure.Lefts.{not_out-mine, not_out-other, step_fewer}
 use Rattle.samoa_invariant.proofs.preservation.Slots.{put-else, put_at-else, put_at-here, slot_or_not}
 use Rattle.std.proofs.lemmas.Bool.{cases_eq}
-use Rattle.samoa_invariant.proofs.preservation.Versions.{if_else, if_here}
 use Rattle.samoa_core.specs.Room.{spare_of, spare_when, to_come}
 
 pub sum-le : (f g : ℕ → ℕ) (n : ℕ) → ((j : ℕ) → j < n → f j ≤ g j) → sum_to f n ≤ sum_to g n

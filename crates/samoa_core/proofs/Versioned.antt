@@ -1,14 +1,12 @@
 -- What is known of the versions of a core by its invariant.
 use Rattle.std.proofs.Common.{arith, ◌≡◌, ℕ, suc, ◌+◌, ◌*◌, ◌<◌, ◌≤◌, length, get_or, Some}
-use Rattle.samoa_model.specs.Allowed.{weight}
-use Rattle.samoa_versions.specs.Counters.{Counters, HasTurn, lv_at}
 use Rattle.samoa_invariant.specs.Inv.{Invariant, IsOutRightly}
 use Rattle.samoa_invariant.specs.Play.{Play, version}
 use Rattle.samoa_invariant.specs.State as model
 use Rattle.samoa_invariant.specs.Runs.{Trace, play, state}
 use Rattle.samoa_invariant.proofs.representation.Scripted.{get_is}
 use Rattle.samoa_invariant.proofs.representation.Traces.{invariant}
-use Rattle.samoa_invariant.proofs.preservation.Versions.{version-mono, version-own}
+use Rattle.samoa_invariant.proofs.preservation.Versions.{version-mono}
 use Rattle.samoa_core.specs.Kept.{Fields, Kept, trace_of}
 use Rattle.samoa_core.proofs.Grids.{grid-within}
 

@@ -1,5 +1,5 @@
 -- What a declaration's form says of a release, and of the local version where a call was completed.
-use Rattle.std.specs.Prelude.{◌≡◌, ℕ, ◌+◌, ◌*◌, Bool, true, false, ◌&&◌, List, [], map, get_or, set, Option, Some, None}
+use Rattle.std.specs.Prelude.{ℕ, ◌+◌, ◌*◌, Bool, true, false, ◌&&◌, List, get_or, set, Option, Some, None}
 use Rattle.samoa_model.specs.Allowed.{declares}
 use Rattle.samoa_model.specs.declared.ids.MicroId.{MicroId}
 use Rattle.samoa_model.specs.declared.script.Decl.{Decl}

@@ -1,6 +1,7 @@
 pub mod Known
 pub mod Admission
 pub mod Since
+pub mod Steps
 pub mod Places
 pub mod Turns
 pub mod Later

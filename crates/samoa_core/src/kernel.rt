@@ -279,6 +279,17 @@ impl<B: Micro> Core<B> {
         self.slots.is_home(node, micro)
     }
 
+    /// Whether a microprotocol is home at a computation's node.
+    pub(crate) fn is_home_of(&self, comp: u32, micro: u32) -> bool
+        requires kept { cleared_comps self.now < comp }
+        requires admitted { comp ≤ length self.now.exts }
+        requires micro { micro < length self.now.script.micros }
+        ensures { IsTrue result ↔ (state self.now).out ((play self.now).node (comp - 1)) micro ≡ None }
+    {
+        self.recall();
+        self.is_home(self.running(comp).node, micro)
+    }
+
     /// Whether a microprotocol is home at a computation's node, in a core that isn't stopped.
     fn may_go_out(&self, comp: u32, micro: u32) -> bool
         requires kept { cleared_comps self.now < comp }
@@ -286,10 +297,8 @@ impl<B: Micro> Core<B> {
         requires micro { micro < length self.now.script.micros }
         ensures { IsTrue result ↔ (((state self.now).out ((play self.now).node (comp - 1)) micro ≡ None) × ((state self.now).stopped ≡ false)) }
     {
-        self.recall();
-        let node = self.running(comp).node;
         let stopped = self.stopped();
-        self.is_home(node, micro) && !stopped
+        self.is_home_of(comp, micro) && !stopped
     }
 
     /// Whether the next handler step of a computation may begin.

@@ -12,6 +12,7 @@ mod parts;
 mod running;
 mod scans;
 mod sent;
+mod single;
 mod slots;
 mod turn;
 

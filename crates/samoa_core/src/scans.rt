@@ -9,11 +9,8 @@ ghost use Rattle.samoa_core.specs.Since.{cleared_comps};
 ghost use Rattle.samoa_core.specs.Sound.{IsPast};
 
 use crate::forms::waits_for_rest;
-use crate::grid::place;
 use crate::kernel::Core;
-use crate::running::end_at;
 use samoa_micro::Micro;
-use samoa_model::Step;
 
 impl<B: Micro> Core<B> {
     /// The least computation whose next handler step is due, None exactly where there is none.
@@ -94,7 +91,7 @@ impl<B: Micro> Core<B> {
     }
 
     /// Whether a release is due.
-    fn can_release(&self, comp: u32, micro: u32) -> bool
+    pub(crate) fn can_release(&self, comp: u32, micro: u32) -> bool
         requires kept { cleared_comps self.now < comp }
         requires admitted { comp ≤ length self.now.exts }
         requires micro { micro < length self.now.script.micros }
@@ -102,20 +99,6 @@ impl<B: Micro> Core<B> {
     {
         // What isn't declared has no turn.
         self.has_turn(comp, micro) && self.is_quiet(comp, micro)
-    }
-
-    /// Makes a release that is due.
-    fn release(&mut self, comp: u32, micro: u32)
-        requires due { IsDue self.old (Step.Release comp micro) }
-        requires kept { cleared_comps self.old < comp }
-        requires within { micro < length self.old.script.micros }
-        ensures step { self.new ≡ with_step self.old (Step.Release comp micro) }
-    {
-        let node = self.running(comp).node;
-        let turn = self.running(comp).turn(micro);
-        let slot = place(self.script.micros.len(), node.0, micro);
-        self.versions.hand_on(slot, turn.from, turn.to);
-        self.journal.note(Step::Release { comp, micro });
     }
 
     /// Makes the ends that are due, by rising computation, until none is.
@@ -147,7 +130,7 @@ impl<B: Micro> Core<B> {
     }
 
     /// Whether an end is due.
-    fn can_end(&self, comp: u32) -> bool
+    pub(crate) fn can_end(&self, comp: u32) -> bool
         requires kept { cleared_comps self.now < comp }
         requires admitted { comp ≤ length self.now.exts }
         ensures { IsTrue result ↔ IsDue self.now (Step.End comp) }
@@ -171,18 +154,6 @@ impl<B: Micro> Core<B> {
             micro += 1;
         }
         true
-    }
-
-    /// Makes an end that is due.
-    fn end(&mut self, comp: u32)
-        requires due { IsDue self.old (Step.End comp) }
-        requires kept { cleared_comps self.old < comp }
-        ensures step { self.new ≡ with_step self.old (Step.End comp) }
-    {
-        let at = (comp - 1 - self.first) as usize;
-        end_at(&mut self.running, at);
-        self.unended -= 1;
-        self.journal.note(Step::End { comp });
     }
 
     /// Makes all releases and then all ends that are due. None of either is due afterwards.

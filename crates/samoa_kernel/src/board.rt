@@ -67,9 +67,12 @@ impl<B: Micro + Send> Board<B> {
         ensures err { IfErr result (λ back. back.0 ≡ core) }
     {
         let _admitted = core.admitted();
-        match Turnstile::new(alloc, Kernel::new(core), seats) {
-            Ok((turnstile, seat)) => Ok((Board { turnstile }, seat)),
-            Err((kernel, fault)) => Err((kernel.into_core(), fault)),
+        match Kernel::boxed(alloc, core) {
+            Err(back) => Err(back),
+            Ok(kernel) => match Turnstile::new(alloc, kernel, seats) {
+                Ok((turnstile, seat)) => Ok((Board { turnstile }, seat)),
+                Err((kernel, fault)) => Err((kernel.into_core(), fault)),
+            },
         }
     }
 
@@ -86,7 +89,7 @@ impl<B: Micro + Send> Board<B> {
         ensures step { HasEntered seat.old result seat.new }
         ensures turn { IfWork result (IsInHand seat.new) }
     {
-        let core = self.turnstile.take(seat, rt).into_core();
+        let core = self.turnstile.take(seat, rt).into_box();
         let (kernel, entered) = answered(core);
         self.turnstile.put(seat, kernel);
         entered
@@ -105,8 +108,7 @@ impl<B: Micro + Send> Board<B> {
         ensures hand { hand_of seat.new ≡ None }
         ensures step { HasLeft seat.old ran seat.new }
     {
-        let core = self.turnstile.take(seat, rt).into_core();
-        let _found = core.admitted();
+        let core = self.turnstile.take(seat, rt).into_box();
         self.turnstile.put(seat, left(core, ran));
     }
 
@@ -122,8 +124,7 @@ impl<B: Micro + Send> Board<B> {
         ensures hand { hand_of seat.new ≡ None }
         ensures step { HasAbandoned seat.old turn seat.new }
     {
-        let core = self.turnstile.take(seat, rt).into_core();
-        let _found = core.admitted();
+        let core = self.turnstile.take(seat, rt).into_box();
         self.turnstile.put(seat, taken_back(core, turn));
     }
 
@@ -179,11 +180,11 @@ impl<B: Micro + Send> Board<B> {
 }
 
 /// The steps of `enter` in a core.
-fn answered<B: Micro>(core: Core<B>) -> (Kernel<B>, Entered<B>)
-    requires settled { model.IsSettled (play core) (state core) }
-    ensures right { IsAnswer core result.1 }
-    ensures after { result.0 ≡ after core result.1 }
-    ensures run { IsRun core × IsRun result.0 }
+fn answered<B: Micro>(core: Box<Core<B>>) -> (Kernel<B>, Entered<B>)
+    requires settled { model.IsSettled (play core.value) (state core.value) }
+    ensures right { IsAnswer core.value result.1 }
+    ensures after { result.0 ≡ after core.value result.1 }
+    ensures run { IsRun core.value × IsRun result.0 }
 {
     let mut core = core;
     let entered = answer(&mut core);
@@ -228,9 +229,9 @@ fn begin<B: Micro>(core: &mut Core<B>, comp: u32) -> Turn<B>
 }
 
 /// The steps of `leave` in a core.
-fn left<B: Micro>(core: Core<B>, ran: Ran<B>) -> Kernel<B>
-    requires away { IsAway core ran }
-    ensures settles { Settles (with_step core (Step.Leave ran.comp)) result }
+fn left<B: Micro>(core: Box<Core<B>>, ran: Ran<B>) -> Kernel<B>
+    requires away { IsAway core.value ran }
+    ensures settles { Settles (with_step core.value (Step.Leave ran.comp)) result }
     ensures run { IsRun result }
 {
     let mut core = core;
@@ -241,15 +242,25 @@ fn left<B: Micro>(core: Core<B>, ran: Ran<B>) -> Kernel<B>
 }
 
 /// The steps of `abandon` in a core.
-fn taken_back<B: Micro>(core: Core<B>, turn: Turn<B>) -> Kernel<B>
-    requires away { IsAway core turn }
-    requires settled { model.IsSettled (play core) (state core) }
-    ensures step { result ≡ with_step core (Step.Abandon turn.comp) }
+fn taken_back<B: Micro>(core: Box<Core<B>>, turn: Turn<B>) -> Kernel<B>
+    requires away { IsAway core.value turn }
+    requires settled { model.IsSettled (play core.value) (state core.value) }
+    ensures step { result ≡ with_step core.value (Step.Abandon turn.comp) }
     ensures run { IsRun result }
 {
     let mut core = core;
+    take_back(&mut core, turn);
+    Kernel::new(core)
+}
+
+fn take_back<B: Micro>(core: &mut Core<B>, turn: Turn<B>)
+    requires away { IsAway core.old turn }
+    requires settled { model.IsSettled (play core.old) (state core.old) }
+    ensures step { core.new ≡ with_step core.old (Step.Abandon turn.comp) }
+    ensures run { IsRun core.new }
+    ensures settled { model.IsSettled (play core.new) (state core.new) }
+{
     let _found = core.admitted();
     core.abandon(turn);
     let _taken_back = core.admitted();
-    Kernel::new(core)
 }

@@ -1,4 +1,4 @@
-use Rattle.std.proofs.Common.{arith, ◌≡◌, ◌∙◌, ◌+◌, ◌∷◌, [], ℕ, List, length, ap, refl, add-one}
+use Rattle.std.proofs.Common.{arith, ◌≡◌, ◌∙◌, length, ap, refl, add-one}
 use Rattle.samoa_core.proofs.Taken.{length-raised, length-taken, raised-else}
 use Rattle.samoa_core.proofs.admission.take_turns.Goals as goal
 

@@ -1,4 +1,4 @@
-use Rattle.std.proofs.Common.{arith, ◌-◌, ◌≤◌, ◌<◌, length, refl}
+use Rattle.std.proofs.Common.{arith, ◌-◌, refl}
 use Rattle.samoa_core.proofs.Passes.{all-past}
 use Rattle.samoa_core.proofs.kernel.Core.all_past.Goals as goal
 

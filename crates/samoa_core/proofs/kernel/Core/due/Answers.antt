@@ -1,4 +1,3 @@
-use Rattle.std.proofs.Common.{arith}
 use Rattle.samoa_core.proofs.Facts.{due-since}
 use Rattle.samoa_core.proofs.kernel.Core.due.Goals as goal
 

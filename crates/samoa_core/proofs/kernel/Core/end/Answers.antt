@@ -1,28 +1,14 @@
-use Rattle.std.proofs.Common.{arith, ◌-◌, ◌<◌, ◌≤◌, length, sym, subst}
 use Rattle.samoa_model.specs.declared.record.Step.{Step}
-use Rattle.samoa_invariant.specs.Runs.{IsDue, Trace}
-use Rattle.samoa_core.specs.Fields.{fields_of}
-use Rattle.samoa_core.specs.Since.{cleared_comps}
-use Rattle.samoa_core.proofs.Going.{end-there, kept-ended, some-unended}
-use Rattle.samoa_core.proofs.Keeps.{some_promised}
+use Rattle.samoa_invariant.proofs.representation.Traces.{fewer}
+use Rattle.samoa_core.proofs.Asked.{end-since}
+use Rattle.samoa_core.proofs.Later.{later-step}
 use Rattle.samoa_core.proofs.kernel.Core.end.Goals as goal
 
-pub overflow_sub-self : goal.overflow_sub-self
-overflow_sub-self g c =
-    let some = some-unended (fields_of c.self.inside) c.args.comp c.self.invariant (subst (λ (x : Trace). IsDue x (Step.End c.args.comp)) (sym c.self.view_is) c.requires.due) in
-    omega (arith, some)
+pub finish-requires-clause-kept : goal.finish-requires-clause-kept
+finish-requires-clause-kept g c = (end-since c.args.self.now c.args.comp c.recall.ensures c.requires.due).0
 
-pub note-requires : goal.note-requires
-note-requires g c =
-    some_promised (fields_of c.self.inside) (Step.End c.args.comp) c.self.invariant tt (subst (λ (x : Trace). IsDue x (Step.End c.args.comp)) (sym c.self.view_is) c.requires.due)
+pub returns-clause-later : goal.returns-clause-later
+returns-clause-later g c = later-step c.args.self.now _ (Step.End c.args.comp) c.recall.ensures.run c.finish.ensures.step
 
-pub end_at-requires : goal.end_at-requires
-end_at-requires g c =
-    end-there (fields_of c.self.inside) c.args.comp c.self.invariant (subst (λ (x : Trace). IsDue x (Step.End c.args.comp)) (sym c.self.view_is) c.requires.due)
-    (subst (λ (x : Trace). cleared_comps x < c.args.comp) (sym c.self.view_is) c.requires.kept)
-
-pub invariant_of-self : goal.invariant_of-self
-invariant_of-self g c =
-    rw c.note.ensures
-    (kept-ended (fields_of c.self.inside) c.args.comp _ c.self.invariant (subst (λ (x : Trace). IsDue x (Step.End c.args.comp)) (sym c.self.view_is) c.requires.due)
-    (subst (λ (x : Trace). cleared_comps x < c.args.comp) (sym c.self.view_is) c.requires.kept) c.end_at.ensures)
+pub returns-clause-fewer : goal.returns-clause-fewer
+returns-clause-fewer g c = rw c.finish.ensures.step (fewer c.args.self.now (Step.End c.args.comp) c.recall.ensures.run tt c.requires.due)

@@ -1,5 +1,4 @@
-use Rattle.std.proofs.Common.{arith, ◌≡◌, ◌≤◌, ◌<◌, ◌+◌, ◌∙◌, ap, sym, refl, length, ℕ}
-use Rattle.samoa_invariant.specs.Runs.{Trace}
+use Rattle.std.proofs.Common.{arith, ◌≤◌, ◌+◌, ◌∙◌, ap, sym, refl, length}
 use Rattle.samoa_invariant.specs.Settling.{EndsBefore}
 use Rattle.samoa_core.specs.Later.{IsLater}
 use Rattle.samoa_core.specs.Since.{cleared_comps}

@@ -1,4 +1,4 @@
-use Rattle.std.proofs.Common.{arith, ◌∙◌, ◌≤◌, ◌<◌, ◌-◌, ap, length}
+use Rattle.std.proofs.Common.{ap}
 use Rattle.std.specs.Prelude.{slice_get}
 use Rattle.samoa_core.proofs.Answered.{entries_are}
 use Rattle.samoa_core.proofs.kernel.Core.entry.Goals as goal

@@ -1,4 +1,4 @@
-use Rattle.std.proofs.Common.{arith, ◌-◌, ◌≤◌, sym, subst}
+use Rattle.std.proofs.Common.{arith, sym, subst}
 use Rattle.samoa_model.specs.declared.record.Step.{Step}
 use Rattle.samoa_invariant.specs.Runs.{Trace}
 use Rattle.samoa_core.specs.Fields.{fields_of}

@@ -1,9 +1,9 @@
-use Rattle.std.proofs.Common.{arith, ◌-◌, ◌≤◌, length, get_or, ap, sym, subst, refl}
+use Rattle.std.proofs.Common.{arith, sym, subst, refl}
 use Rattle.samoa_model.specs.declared.record.Step.{Step}
 use Rattle.samoa_invariant.specs.Runs.{Trace}
 use Rattle.samoa_core.specs.Fields.{fields_of}
 use Rattle.samoa_core.specs.Turns.{HasCome}
-use Rattle.samoa_core.proofs.Going.{Comes, at-step, item-there, kept-left, some-away, takes-there}
+use Rattle.samoa_core.proofs.Going.{at-step, kept-left, some-away, takes-there}
 use Rattle.samoa_core.proofs.Keeps.{some_promised}
 use Rattle.samoa_core.proofs.kernel.Core.go_home.Goals as goal
 

@@ -1,4 +1,4 @@
-use Rattle.std.proofs.Common.{arith, ◌+◌, ◌*◌, ◌≤◌, length, sym}
+use Rattle.std.proofs.Common.{arith}
 use Rattle.samoa_model.specs.declared.record.Step.{Step}
 use Rattle.samoa_core.specs.Fields.{fields_of}
 use Rattle.samoa_core.proofs.Going.{at-step, away-fits, box-here, kept-enter}

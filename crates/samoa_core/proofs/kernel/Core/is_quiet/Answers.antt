@@ -1,4 +1,3 @@
-use Rattle.std.proofs.Common.{◌∙◌}
 use Rattle.samoa_core.proofs.Quiets.{handlers-by, testable}
 use Rattle.samoa_core.proofs.kernel.Core.is_quiet.Goals as goal
 

@@ -1,4 +1,4 @@
-use Rattle.std.proofs.Common.{arith, ◌∙◌, ◌<◌, sym}
+use Rattle.std.proofs.Common.{arith, ◌∙◌, sym}
 use Rattle.samoa_core.proofs.Facts.{ready-is}
 use Rattle.samoa_core.proofs.kernel.Core.is_ready.Goals as goal
 

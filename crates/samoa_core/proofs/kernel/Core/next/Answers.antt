@@ -1,7 +1,4 @@
-use Rattle.std.proofs.Common.{arith, ◌∙◌, ◌<◌, ◌-◌, ap, length}
-use Rattle.samoa_model.specs.declared.ids.MicroId.{MicroId}
-use Rattle.samoa_model.specs.declared.handler.Moment.{Moment}
-use Rattle.samoa_calls.specs.Handed.{next_moment}
+use Rattle.std.proofs.Common.{◌-◌}
 use Rattle.samoa_core.proofs.Facts.{moments-within}
 use Rattle.samoa_core.proofs.kernel.Core.next.Goals as goal
 

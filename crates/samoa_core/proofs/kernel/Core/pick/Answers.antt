@@ -1,4 +1,4 @@
-use Rattle.std.proofs.Common.{arith, ◌≤◌, ◌<◌, length}
+use Rattle.std.proofs.Common.{arith}
 use Rattle.samoa_core.proofs.Facts.{due-since}
 use Rattle.samoa_core.proofs.Passes.{none-yet}
 use Rattle.samoa_core.proofs.kernel.Core.pick.Goals as goal

@@ -1,4 +1,4 @@
-use Rattle.std.proofs.Common.{arith, ◌≡◌, ◌≤◌, ◌<◌, ◌+◌, ◌∙◌, ap, sym, refl, length, ℕ}
+use Rattle.std.proofs.Common.{arith, ◌≤◌, ◌+◌, ◌∙◌, ap, sym, refl, length}
 use Rattle.samoa_invariant.specs.Runs.{Trace}
 use Rattle.samoa_invariant.specs.Settling.{ReleasesBefore}
 use Rattle.samoa_core.specs.Later.{IsLater}

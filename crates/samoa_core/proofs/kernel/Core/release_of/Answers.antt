@@ -1,6 +1,4 @@
-use Rattle.std.proofs.Common.{arith, ◌≡◌, ◌≤◌, ◌<◌, ◌∙◌, ap, sym, subst, length, true, false, ℕ}
-use Rattle.samoa_invariant.specs.Runs.{Trace}
-use Rattle.samoa_invariant.specs.Settling.{ReleasesOf}
+use Rattle.std.proofs.Common.{arith, ◌≡◌, ◌∙◌, ap, sym, length, true}
 use Rattle.samoa_invariant.proofs.settling.Making.{releases_of-none}
 use Rattle.samoa_core.specs.Later.{IsLater}
 use Rattle.samoa_core.proofs.Later.{later-made}

@@ -1,4 +1,3 @@
-use Rattle.samoa_invariant.specs.Settling.{Settles}
 use Rattle.samoa_invariant.proofs.settling.Releasing.{settles-settled}
 use Rattle.samoa_core.proofs.Later.{later-trans}
 use Rattle.samoa_core.proofs.kernel.Core.settle.Goals as goal

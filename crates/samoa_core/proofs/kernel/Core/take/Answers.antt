@@ -1,5 +1,5 @@
-use Rattle.std.proofs.Common.{arith, ◌≡◌, ◌∙◌, ◌≤◌, ◌<◌, ◌+◌, ◌-◌, ◌*◌, ◌++◌, ◌∷◌, [], ℕ, List, length, length-append, ap, sym, subst, refl}
-use Rattle.std.specs.Prelude.{get_or, vec_capacity}
+use Rattle.std.proofs.Common.{arith, ◌≡◌, ◌∙◌, ◌+◌, ◌++◌, ◌∷◌, [], ℕ, List, length, length-append, ap, sym, subst, refl}
+use Rattle.std.specs.Prelude.{vec_capacity}
 use Rattle.samoa_invariant.specs.Runs.{Trace}
 use Rattle.samoa_core.specs.Fields.{fields_of}
 use Rattle.samoa_model.specs.declared.record.Ext.{Ext}

@@ -21,22 +21,22 @@ in_work old new Entered.Stopped h = tt
 
 pub put-requires-clause-grown : goal.put-requires-clause-grown
 put-requires-clause-grown g c lifetimes outlives =
-    let t : Trace = c.into_core-core.result in
+    let t : Trace = c.into_box-core.result.value in
     let take = c.take.ensures in
     let found : IsTaken c.args.seat.now c.take.new.seat t =
-    taken_out c.args.seat.now c.take.new.seat c.take.result t c.into_core-core.ensures.core take.fixed take.grown take.hand take.kept c.answered-kernel.ensures.run.0 in
+    taken_out c.args.seat.now c.take.new.seat c.take.result t c.into_box-core.ensures.core take.fixed take.grown take.hand take.kept c.answered-kernel.ensures.run.0 in
     entered_grown c.args.seat.now c.take.new.seat t c.answered-kernel.result.0 found c.requires.hand c.answered-kernel.result.1 c.answered-kernel.ensures.after
 
 pub returns-clause-step : goal.returns-clause-step
 returns-clause-step g c =
-    let t : Trace = c.into_core-core.result in
+    let t : Trace = c.into_box-core.result.value in
     let u : Trace = c.answered-kernel.result.0 in
     let answer : Entered g.row.B.Denot = c.answered-kernel.result.1 in
     let mid : BoardSeat = c.take.new.seat in
     let new : BoardSeat = c.put.new.seat in
     let take = c.take.ensures in
     let found : IsTaken c.args.seat.now mid t =
-    taken_out c.args.seat.now mid c.take.result t c.into_core-core.ensures.core take.fixed take.grown take.hand take.kept c.answered-kernel.ensures.run.0 in
+    taken_out c.args.seat.now mid c.take.result t c.into_box-core.ensures.core take.fixed take.grown take.hand take.kept c.answered-kernel.ensures.run.0 in
     let put : IsPut mid new u = put_back mid new u c.put.ensures.kept c.put.ensures.seen c.put.ensures.hand in record {
       found = t;
       finds = finds c.args.seat.now mid t found;

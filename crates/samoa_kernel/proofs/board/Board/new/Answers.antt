@@ -4,6 +4,6 @@ use Rattle.samoa_kernel.specs.Opens.{is_open}
 use Rattle.samoa_kernel.proofs.Standing.{home_closed}
 use Rattle.samoa_kernel.proofs.board.Board.new.Goals as goal
 
-pub new-requires-2-clause-settled : goal.new-requires-2-clause-settled
-new-requires-2-clause-settled g c lifetimes outlives k =
-    subst (λ (x : Trace). is_open x.journal k ≡ false) (sym c.new.ensures) (home_closed c.args.core c.admitted-admitted.ensures.run c.requires.home k)
+pub new-requires-clause-settled : goal.new-requires-clause-settled
+new-requires-clause-settled g c lifetimes outlives k =
+    subst (λ (x : Trace). is_open x.journal k ≡ false) (sym c.in-Ok.ensures.ok) (home_closed c.args.core c.admitted-admitted.ensures.run c.requires.home k)
