@@ -37,13 +37,13 @@ stands before [] made k comp each is = absurd (cc is)
 stands before (p ∷ ps) made k comp each is =
     go (cases_order k (length p.exts)) (cases_order k (length (part_steps n p)))
     (λ (j : ℕ) (from : k ≡ length (part_steps n p) + j).
-        let deeper : slice_get (steps_from (length (before ++ p.exts)) ps) j ≡ Some (Step.Admit comp) =
-        ap (λ (m : ℕ). slice_get (steps_from m ps) j) (length-append before p.exts)
-        ∙ (sym (slice_right (part_steps n p) rest j) ∙ (ap (λ (m : ℕ). slice_get (part_steps n p ++ rest) m) (sym from) ∙ is)) in
-        later_part (before ++ exts_of (p ∷ ps)) (ends_from (made + length (part_steps n p)) (n + length p.exts) ps) made (length (part_steps n p)) k j comp from
-        (subst (λ (xs : List Ext). Stands xs (ends_from (made + length (part_steps n p)) (n + length p.exts) ps) (made + length (part_steps n p)) j comp) (append_assoc before p.exts (exts_of ps))
-        (subst (λ (m : ℕ). Stands ((before ++ p.exts) ++ exts_of ps) (ends_from (made + length (part_steps n p)) m ps) (made + length (part_steps n p)) j comp) (length-append before p.exts)
-        (stands (before ++ p.exts) ps (made + length (part_steps n p)) j comp each.1 deeper))))
+    let deeper : slice_get (steps_from (length (before ++ p.exts)) ps) j ≡ Some (Step.Admit comp) =
+    ap (λ (m : ℕ). slice_get (steps_from m ps) j) (length-append before p.exts)
+    ∙ (sym (slice_right (part_steps n p) rest j) ∙ (ap (λ (m : ℕ). slice_get (part_steps n p ++ rest) m) (sym from) ∙ is)) in
+    later_part (before ++ exts_of (p ∷ ps)) (ends_from (made + length (part_steps n p)) (n + length p.exts) ps) made (length (part_steps n p)) k j comp from
+    (subst (λ (xs : List Ext). Stands xs (ends_from (made + length (part_steps n p)) (n + length p.exts) ps) (made + length (part_steps n p)) j comp) (append_assoc before p.exts (exts_of ps))
+    (subst (λ (m : ℕ). Stands ((before ++ p.exts) ++ exts_of ps) (ends_from (made + length (part_steps n p)) m ps) (made + length (part_steps n p)) j comp) (length-append before p.exts)
+    (stands (before ++ p.exts) ps (made + length (part_steps n p)) j comp each.1 deeper))))
   where
     n : ℕ
     n = length before
@@ -185,5 +185,13 @@ pub admit_none : (t u : Trace) (steps : List Step) → u.journal ≡ t.journal +
     → Each AdmitsNone steps
 admit_none t u steps journal exts all also =
     no_admission steps
-    (omega (arith, run_count (play t) t.clears 0 (model.empty (play t)) t.journal, run_count (play u) u.clears 0 (model.empty (play u)) u.journal, all, also,
-    ap (λ (xs : List Ext). length xs) exts, ap how_many journal, many-append t.journal steps))
+    (omega (
+      arith,
+      run_count (play t) t.clears 0 (model.empty (play t)) t.journal,
+      run_count (play u) u.clears 0 (model.empty (play u)) u.journal,
+      all,
+      also,
+      ap (λ (xs : List Ext). length xs) exts,
+      ap how_many journal,
+      many-append t.journal steps,
+    ))

@@ -140,12 +140,13 @@ module _ (P : Play) (m : ℕ) where
         let d : ℕ = cells_at (is_clear others made) c in
         let also : is_clear clears made ≡ true → is_clear others made ≡ true =
         (λ is. all made (omega arith) ∙ (ends_here P clears made core (step ∷ later) ∙ all-ended core (run.0 is))) in
-        let few : d ≤ here.cells = few_at (is_clear others made) (is_clear clears made) core c fewer also in
-        ((λ is. ended_all core (sym (ends_here P clears made core (step ∷ later)) ∙ (sym (all made (omega arith)) ∙ is))),
-        subst (λ (x : Core). CanMake Q x step) (sym (clear_same core c made)) (can_make here d more few step run.1),
-        subst (λ (x : Core). IsRunFrom Q others (suc made) x later) (sym (ap (λ (x : Core). after_step Q x step) (clear_same core c made) ∙ step_same here d step))
-        (runs_same more (suc made) (after_step P here step) (held_after here d step) (held_few here d few step) later run.2
-        (λ n above. all n (omega (arith, above)) ∙ ends_later P clears made n core step later (omega (arith, above)))))
+        let few : d ≤ here.cells = few_at (is_clear others made) (is_clear clears made) core c fewer also in (
+          (λ is. ended_all core (sym (ends_here P clears made core (step ∷ later)) ∙ (sym (all made (omega arith)) ∙ is))),
+          subst (λ (x : Core). CanMake Q x step) (sym (clear_same core c made)) (can_make here d more few step run.1),
+          subst (λ (x : Core). IsRunFrom Q others (suc made) x later) (sym (ap (λ (x : Core). after_step Q x step) (clear_same core c made) ∙ step_same here d step))
+              (runs_same more (suc made) (after_step P here step) (held_after here d step) (held_few here d few step) later run.2
+              (λ n above. all n (omega (arith, above)) ∙ ends_later P clears made n core step later (omega (arith, above)))),
+        )
 
 -- ---- so it makes a whole run
 module _ (script : Script) (cells : ℕ) (clears : List ℕ) (journal : List Step) where

@@ -7,11 +7,12 @@ use Rattle.samoa_model.specs.declared.record.Ext.{Ext}
 use Rattle.samoa_model.specs.declared.script.Script.{Script}
 use Rattle.samoa_invariant.specs.Runs.{Trace}
 use Rattle.samoa_ends.specs.Pieces.{AppendsPrefix}
-use Rattle.samoa_run.specs.declared.totals.Totals.{Totals}
+use Rattle.samoa_ledger.specs.declared.totals.Totals.{Totals}
 use Rattle.samoa_net.specs.Gathered.{Gathered}
-use Rattle.samoa_run.specs.Gathering.{HasGathered}
-use Rattle.samoa_run.specs.Running.{HasRun, later_text}
-use Rattle.samoa_run.proofs.LaterText.{later_text-none, later_text-append}
+use Rattle.samoa_ledger.specs.Gathering.{HasGathered}
+use Rattle.samoa_run.specs.Running.{HasRun}
+use Rattle.samoa_ledger.specs.Written.{later_text}
+use Rattle.samoa_ledger.proofs.LaterText.{later_text-none, later_text-append}
 use Rattle.samoa_run.proofs.Parts.{part_after, part_more}
 
 -- of these items this rest is still to be run; the others were run and written

@@ -17,10 +17,10 @@ use Rattle.samoa_serial.specs.Ticks.{IsBatch, admitted, admitted_by, is_limited,
 use Rattle.samoa_serial.proofs.LimitLaws.{admitted_by-begins, admitted_by-few, admitted_by-known, admitted_by-none, admitted_to-begins, admitted_to-is, is_limited_to-is, passed_admits, passed_limits, tick_admits, tick_passes, tick_ticks}
 use Rattle.samoa_ends.specs.Pieces.{AppendsPrefix}
 use Rattle.samoa_net.specs.Gathered.{Gathered}
-use Rattle.samoa_run.specs.Gathering.{HasGathered}
-use Rattle.samoa_run.proofs.Gathering.{batch_is}
-use Rattle.samoa_run.specs.Running.{later_text}
-use Rattle.samoa_run.proofs.LaterText.{later_text-append, later_text-none}
+use Rattle.samoa_ledger.specs.Gathering.{HasGathered}
+use Rattle.samoa_ledger.proofs.Gathering.{batch_is}
+use Rattle.samoa_ledger.specs.Written.{later_text}
+use Rattle.samoa_ledger.proofs.LaterText.{later_text-append, later_text-none}
 use Rattle.samoa_run.proofs.Parts.{part_after, part_more}
 
 -- what holds of each by recursion holds of all

@@ -1,13 +1,8 @@
 pub mod Batches
 pub mod Closing
-pub mod EntryBound
-pub mod EntrySteps
-pub mod Gathering
 pub mod Histories
 pub mod Kept
-pub mod LaterText
 pub mod Obeying
-pub mod OneMore
 pub mod OneWord
 pub mod Opened
 pub mod Parts

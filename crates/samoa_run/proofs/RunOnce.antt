@@ -14,9 +14,10 @@ use Rattle.samoa_core.specs.Later.{IsLater}
 use Rattle.samoa_core.specs.Since.{cleared_comps}
 use Rattle.samoa_core.proofs.Since.{cleared-clear}
 use Rattle.samoa_net.specs.Gathered.{Gathered}
-use Rattle.samoa_run.specs.declared.totals.Totals.{Totals}
-use Rattle.samoa_run.specs.Gathering.{HasGathered}
-use Rattle.samoa_run.specs.Running.{AreTotals, HasOpened, HasRun, later_text}
+use Rattle.samoa_ledger.specs.declared.totals.Totals.{Totals}
+use Rattle.samoa_ledger.specs.Gathering.{HasGathered}
+use Rattle.samoa_run.specs.Running.{HasOpened, HasRun}
+use Rattle.samoa_ledger.specs.Written.{AreTotals, later_text}
 
 -- after these computations those have ended, and weren't cleared away
 pub record HasEnded (script : Script) (past more : List Ext) (core : Trace) : Type 0 where

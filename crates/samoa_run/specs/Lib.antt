@@ -1,7 +1,6 @@
 pub mod Statuses
 pub mod Words
 pub mod Due
-pub mod Gathering
 pub mod Reading
 pub mod Readings
 pub mod Running

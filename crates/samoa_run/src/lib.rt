@@ -10,9 +10,7 @@ mod report;
 mod running;
 mod status;
 mod stop;
-mod text;
 mod top;
-mod totals;
 mod words;
 mod writing;
 

@@ -7,21 +7,21 @@ ghost use Rattle.samoa_serial.specs.LimitedReport.{limit_text, report_in_full};
 ghost use Rattle.samoa_serial.specs.Ticks.{admitted, admitted_by, is_limited, is_limited_by, most_admitted};
 ghost use Rattle.samoa_ends.specs.Pieces.{AppendsPrefix};
 ghost use Rattle.samoa_micro.specs.Covers.{Covers};
-ghost use Rattle.samoa_run.specs.Gathering.{HasGathered};
-ghost use Rattle.samoa_run.specs.Running.{HasRun, later_text, closing_text};
+ghost use Rattle.samoa_ledger.specs.Gathering.{HasGathered};
+ghost use Rattle.samoa_run.specs.Running.{HasRun};
+ghost use Rattle.samoa_ledger.specs.Written.{later_text, closing_text};
 ghost use Rattle.samoa_run.specs.Serving.{StopsFor};
 
 use crate::running::{admit_part, run_to_end};
 use crate::stop::Stop;
-use crate::text::{push_comps, push_states};
-use crate::totals::Totals;
 use crate::writing::write_lines;
 use samoa_core::Core;
 use samoa_ends::Sink;
+use samoa_ledger::{Totals, push_closing, push_comps};
 use samoa_micro::{Micro, Stock};
 use samoa_model::{Ext, NoMemory, Script};
 use samoa_net::Net;
-use samoa_report::{limit_line, total_line};
+use samoa_report::limit_line;
 use std::alloc::Global;
 
 /// How many computations a script admits at most.
@@ -270,14 +270,7 @@ impl<B: Micro> Run<B> {
         ensures core { self.new.core ≡ self.old.core }
     {
         self.text.clear();
-        push_states(script, &self.core, &mut self.text)?;
-        let totals = self.totals;
-        total_line(
-            totals.comps,
-            totals.deliveries,
-            totals.refusals,
-            &mut self.text,
-        )?;
+        push_closing(script, &self.core, self.totals, &mut self.text)?;
         write_lines(&self.text, sink)?;
         Ok(())
     }

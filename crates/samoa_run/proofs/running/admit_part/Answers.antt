@@ -1,7 +1,7 @@
 use Rattle.std.proofs.Common.{◌∷◌, [], ◌≤◌, List, arith, length, subst, sym, take}
 use Rattle.samoa_model.specs.declared.record.Ext.{Ext}
 use Rattle.samoa_run.specs.Running.{HasOpened}
-use Rattle.samoa_run.proofs.EntrySteps.{take_one_more}
+use Rattle.samoa_ledger.proofs.EntrySteps.{take_one_more}
 use Rattle.samoa_run.proofs.Opened.{opened_more, some_opened}
 use Rattle.samoa_run.proofs.running.admit_part.Goals as goal
 

@@ -2,7 +2,8 @@ use Rattle.std.proofs.Common.{◌≡◌, ◌∙◌, List, ℕ, false, true, sym}
 use Rattle.std.specs.Io.KnownBytes.{Appends}
 use Rattle.samoa_ends.specs.Pieces.{AppendsPrefix}
 use Rattle.samoa_serial.specs.Ticks.{is_limited}
-use Rattle.samoa_run.proofs.Closing.{closing_of, report-limited, report-whole, report_begun, report_in_part, report_written}
+use Rattle.samoa_ledger.proofs.Closing.{report-limited, report-whole}
+use Rattle.samoa_run.proofs.Closing.{closing_of, report_begun, report_in_part, report_written}
 use Rattle.samoa_run.proofs.Parts.{on_err}
 use Rattle.samoa_run.proofs.report.Run.write_all.Goals as goal
 

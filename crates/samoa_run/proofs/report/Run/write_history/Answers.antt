@@ -3,8 +3,9 @@ use Rattle.std.specs.Io.KnownBytes.{Appends}
 use Rattle.samoa_model.specs.declared.record.Ext.{Ext}
 use Rattle.samoa_serial.specs.Ticks.{is_limited_by, most_admitted}
 use Rattle.samoa_serial.proofs.LimitLaws.{admitted_by-none, is_limited_by-none}
-use Rattle.samoa_run.specs.Gathering.{HasGathered}
-use Rattle.samoa_run.specs.Running.{HasRun, later_text}
+use Rattle.samoa_ledger.specs.Gathering.{HasGathered}
+use Rattle.samoa_run.specs.Running.{HasRun}
+use Rattle.samoa_ledger.specs.Written.{later_text}
 use Rattle.samoa_run.proofs.Histories.{last_admits, last_limits, limit_admits, limit_limits, wrote_none, wrote_tick, wrote_tick_in_part}
 use Rattle.samoa_run.proofs.Parts.{on_err}
 use Rattle.samoa_run.proofs.report.Run.write_history.Goals as goal

@@ -1,8 +1,9 @@
 use Rattle.std.proofs.Common.{◌≡◌, ◌≤◌, [], false}
 use Rattle.std.specs.Io.KnownBytes.{Appends}
 use Rattle.samoa_serial.specs.Ticks.{admitted_by, is_limited_by, most_admitted}
-use Rattle.samoa_run.specs.Gathering.{HasGathered}
-use Rattle.samoa_run.specs.Running.{HasRun, later_text}
+use Rattle.samoa_ledger.specs.Gathering.{HasGathered}
+use Rattle.samoa_run.specs.Running.{HasRun}
+use Rattle.samoa_ledger.specs.Written.{later_text}
 use Rattle.samoa_run.proofs.report.Run.write_history.Given as goal
 
 abbrev pub invariant-loop-before : goal.invariant-loop-before

@@ -1,6 +1,6 @@
 use Rattle.std.proofs.Common.{◌≡◌, ◌∙◌, List, subst, take}
 use Rattle.samoa_ends.specs.Pieces.{AppendsPrefix}
-use Rattle.samoa_run.specs.Running.{later_text}
+use Rattle.samoa_ledger.specs.Written.{later_text}
 use Rattle.samoa_run.proofs.Batches.{first_part}
 use Rattle.samoa_run.proofs.Parts.{on_err}
 use Rattle.samoa_run.proofs.report.Run.write_part.Goals as goal

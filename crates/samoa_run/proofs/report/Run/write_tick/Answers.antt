@@ -3,8 +3,9 @@ use Rattle.std.specs.Io.KnownBytes.{Appends}
 use Rattle.std.specs.List.{All}
 use Rattle.samoa_ends.specs.Pieces.{AppendsPrefix}
 use Rattle.samoa_model.specs.declared.record.Ext.{Ext}
-use Rattle.samoa_run.specs.Running.{HasRun, later_text}
-use Rattle.samoa_run.proofs.Gathering.{gathered_next}
+use Rattle.samoa_run.specs.Running.{HasRun}
+use Rattle.samoa_ledger.specs.Written.{later_text}
+use Rattle.samoa_ledger.proofs.Gathering.{gathered_next}
 use Rattle.samoa_run.proofs.Histories.{IsPart, part_added, part_few, part_named, past_few, tick_part, tick_passes_if}
 use Rattle.samoa_run.proofs.Parts.{on_err}
 use Rattle.samoa_run.proofs.report.Run.write_tick.Goals as goal

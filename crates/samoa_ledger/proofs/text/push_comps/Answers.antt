@@ -4,10 +4,10 @@ use Rattle.samoa_model.specs.declared.record.Ext.{Ext}
 use Rattle.samoa_serial.specs.Report.{is_delivery, is_refusal}
 use Rattle.samoa_invariant.specs.Runs.{Trace, ext_at, no_ext, served_at}
 use Rattle.samoa_invariant.proofs.representation.Traces.{count-few}
-use Rattle.samoa_run.specs.Gathering.{Gathers, HasGathered}
-use Rattle.samoa_run.specs.Running.{AreTotals, later_text}
-use Rattle.samoa_run.proofs.OneMore.{IsAt, gathered_at, later_at, room_for, text_all, text_more, totals_more}
-use Rattle.samoa_run.proofs.text.push_comps.Goals as goal
+use Rattle.samoa_ledger.specs.Gathering.{Gathers, HasGathered}
+use Rattle.samoa_ledger.specs.Written.{AreTotals, later_text}
+use Rattle.samoa_ledger.proofs.OneMore.{IsAt, gathered_at, later_at, room_for, text_all, text_more, totals_more}
+use Rattle.samoa_ledger.proofs.text.push_comps.Goals as goal
 
 pub push_comp-requires-clause-deliveries : goal.push_comp-requires-clause-deliveries
 push_comp-requires-clause-deliveries g c =

@@ -5,8 +5,8 @@ use Rattle.samoa_serial.specs.Kinds.{shown}
 use Rattle.samoa_serial.specs.Lines.{state_text}
 use Rattle.samoa_serial.specs.Report.{node_text, shown_at}
 use Rattle.samoa_serial.proofs.ReportLaws.{node_text-none, node_text-one_more}
-use Rattle.samoa_run.specs.Running.{states_of}
-use Rattle.samoa_run.proofs.text.push_node.Goals as goal
+use Rattle.samoa_ledger.specs.Written.{states_of}
+use Rattle.samoa_ledger.proofs.text.push_node.Goals as goal
 
 pub loop-micro-init : goal.loop-micro-init
 loop-micro-init g c =

@@ -6,15 +6,15 @@ ghost use Rattle.samoa_serial.specs.Report.{comp_text, entries_text, node_text, 
 ghost use Rattle.samoa_invariant.specs.State.{AllEnded, NothingOut};
 ghost use Rattle.samoa_invariant.specs.Runs.{ext_at, served_at, state};
 ghost use Rattle.samoa_core.specs.Since.{cleared_comps};
-ghost use Rattle.samoa_run.specs.Gathering.{Gathers, HasGathered};
-ghost use Rattle.samoa_run.specs.Running.{AreTotals, Counts, later_text, states_of};
+ghost use Rattle.samoa_ledger.specs.Gathering.{Gathers, HasGathered};
+ghost use Rattle.samoa_ledger.specs.Written.{AreTotals, Counts, closing_text, later_text, states_of};
 
 use crate::totals::Totals;
 use samoa_core::Core;
 use samoa_micro::Micro;
 use samoa_model::{MicroId, NoMemory, NodeId, Script};
 use samoa_net::Net;
-use samoa_report::{end_line, entry_line, ext_line, state_line};
+use samoa_report::{end_line, entry_line, ext_line, state_line, total_line};
 
 /// Appends the lines of all computations from the first that isn't counted on, counts them, and gathers what they bring
 /// the next tick. All have ended, and those weren't cleared away. Where there was no memory, some lines may be missing, and
@@ -119,8 +119,28 @@ fn push_entries<B: Micro>(
     Ok(())
 }
 
+/// Appends what a report ends with: the shown states, node by node, and the line of the totals. All have ended, and nothing
+/// is out. Where there was no memory, some may be missing.
+pub fn push_closing<B: Micro>(
+    script: &Script,
+    core: &Core<B>,
+    totals: Totals,
+    text: &mut Vec<u8>,
+) -> Result<(), NoMemory>
+    requires script { core.now.script ≡ script.now }
+    requires all { AllEnded (state core.now) }
+    requires home { NothingOut (state core.now) }
+    requires few { length script.now.micros < 2 ^ 32 }
+    requires counted { AreTotals script.now core.now.exts totals }
+    ensures { OnOk result (text.new.items ≡ text.old.items ++ closing_text script.now core.now.exts) }
+{
+    push_states(script, core, text)?;
+    total_line(totals.comps, totals.deliveries, totals.refusals, text)?;
+    Ok(())
+}
+
 /// Appends the shown states, node by node.
-pub fn push_states<B: Micro>(
+fn push_states<B: Micro>(
     script: &Script,
     core: &Core<B>,
     text: &mut Vec<u8>,

@@ -1,8 +1,8 @@
 use Rattle.std.proofs.Common.{◌≡◌, ◌+◌, ◌-◌, ◌≤◌, ◌++◌, length, take, count_by}
 use Rattle.samoa_serial.specs.Report.{entries_text, is_delivery, is_refusal}
 use Rattle.samoa_invariant.specs.Runs.{ext_at, served_at}
-use Rattle.samoa_run.specs.Gathering.{Gathers}
-use Rattle.samoa_run.proofs.text.push_entries.Given as goal
+use Rattle.samoa_ledger.specs.Gathering.{Gathers}
+use Rattle.samoa_ledger.proofs.text.push_entries.Given as goal
 
 abbrev pub invariant-loop-entry : goal.invariant-loop-entry
 invariant-loop-entry g l =

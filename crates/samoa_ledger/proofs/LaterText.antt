@@ -5,7 +5,7 @@ use Rattle.samoa_model.specs.declared.script.Script.{Script}
 use Rattle.samoa_serial.specs.SerialRun.{serial}
 use Rattle.samoa_serial.specs.Report.{comps_text}
 use Rattle.samoa_serial.proofs.ReportLaws.{comps_text-one_more, comps_text-none}
-use Rattle.samoa_run.specs.Running.{next_text, later_text}
+use Rattle.samoa_ledger.specs.Written.{next_text, later_text}
 
 pub later_text-none : (script : Script) (calls : Bool) (past : List Ext) → later_text script calls past [] ≡ []
 unfolding later_text

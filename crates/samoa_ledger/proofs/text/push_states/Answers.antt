@@ -1,8 +1,8 @@
 use Rattle.std.proofs.Common.{◌++◌, ◌∙◌, List, ap, append-nil, append_assoc, length, sym}
 use Rattle.samoa_serial.specs.Report.{node_text, states_text}
 use Rattle.samoa_serial.proofs.ReportLaws.{states_text-none, states_text-one_more}
-use Rattle.samoa_run.specs.Running.{states_of}
-use Rattle.samoa_run.proofs.text.push_states.Goals as goal
+use Rattle.samoa_ledger.specs.Written.{states_of}
+use Rattle.samoa_ledger.proofs.text.push_states.Goals as goal
 
 pub loop-node-init : goal.loop-node-init
 loop-node-init g c =

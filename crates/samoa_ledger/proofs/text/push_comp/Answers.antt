@@ -3,8 +3,8 @@ use Rattle.std.proofs.lemmas.Result.{on_ok_weaker}
 use Rattle.samoa_model.specs.declared.record.Ext.{Ext}
 use Rattle.samoa_serial.specs.Lines.{ext_text, end_text}
 use Rattle.samoa_invariant.specs.Runs.{served_at}
-use Rattle.samoa_run.proofs.EntrySteps.{comp_text-built}
-use Rattle.samoa_run.proofs.text.push_comp.Goals as goal
+use Rattle.samoa_ledger.proofs.EntrySteps.{comp_text-built}
+use Rattle.samoa_ledger.proofs.text.push_comp.Goals as goal
 
 pub returns-clause-text : goal.returns-clause-text
 returns-clause-text g c =

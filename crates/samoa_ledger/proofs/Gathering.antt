@@ -21,8 +21,8 @@ use Rattle.samoa_serial.proofs.LimitLaws.{by_each-one_more}
 use Rattle.samoa_serial.proofs.ListLaws.{each_append, each_weaker}
 use Rattle.samoa_serial.proofs.RebindingLaws.{asked_by_none}
 use Rattle.samoa_net.specs.Gathered.{Gathered, IsPlanFor, IsPlanIfAny, most_kept}
-use Rattle.samoa_run.specs.Gathering.{Gathers, HasGathered, KeepsAfter, kept_for}
-use Rattle.samoa_run.specs.Running.{next_ran}
+use Rattle.samoa_ledger.specs.Gathering.{Gathers, HasGathered, KeepsAfter, kept_for}
+use Rattle.samoa_ledger.specs.Written.{next_ran}
 
 keeps_none : (xs : List Ext) → KeepsAfter xs [] xs
 keeps_none xs all e = e ∙ ap (λ (l : List Ext). take most_kept l) (sym (append-nil all))

@@ -11,10 +11,10 @@ use Rattle.samoa_serial.specs.Known.{IsKnown}
 use Rattle.samoa_serial.proofs.SerialLaws.{length-comps}
 use Rattle.samoa_invariant.specs.Runs.{Trace, ext_at, no_ext, no_ran, served_at}
 use Rattle.samoa_net.specs.Gathered.{Gathered, most_kept}
-use Rattle.samoa_run.specs.Gathering.{Gathers}
-use Rattle.samoa_run.proofs.Gathering.{entry_known, gathers_more}
-use Rattle.samoa_run.proofs.EntrySteps.{count_by-one_more, entries_text-one_more, found_within, room_for_one, take_one_more, take_whole}
-use Rattle.samoa_run.proofs.text.push_entries.Goals as goal
+use Rattle.samoa_ledger.specs.Gathering.{Gathers}
+use Rattle.samoa_ledger.proofs.Gathering.{entry_known, gathers_more}
+use Rattle.samoa_ledger.proofs.EntrySteps.{count_by-one_more, entries_text-one_more, found_within, room_for_one, take_one_more, take_whole}
+use Rattle.samoa_ledger.proofs.text.push_entries.Goals as goal
 
 pub count-requires-clause-deliveries : goal.count-requires-clause-deliveries
 count-requires-clause-deliveries g c =

@@ -16,13 +16,13 @@ use Rattle.samoa_serial.proofs.SerialLaws.{comp_at}
 use Rattle.samoa_serial.proofs.ReportLaws.{entries_of_sort-append, entries_of_sort-one_more}
 use Rattle.samoa_invariant.specs.Runs.{Trace, no_ran, served_at}
 use Rattle.samoa_net.specs.Gathered.{Gathered}
-use Rattle.samoa_run.specs.declared.totals.Totals.{Totals}
-use Rattle.samoa_run.specs.Gathering.{Gathers, HasGathered}
-use Rattle.samoa_run.specs.Running.{AreTotals, Counts, later_text, next_ran, next_text}
-use Rattle.samoa_run.proofs.EntryBound.{entries_of_ran-at_most}
-use Rattle.samoa_run.proofs.EntrySteps.{take_one_more}
-use Rattle.samoa_run.proofs.Gathering.{gathered_more}
-use Rattle.samoa_run.proofs.LaterText.{later_text-first, later_text-none}
+use Rattle.samoa_ledger.specs.declared.totals.Totals.{Totals}
+use Rattle.samoa_ledger.specs.Gathering.{Gathers, HasGathered}
+use Rattle.samoa_ledger.specs.Written.{AreTotals, Counts, later_text, next_ran, next_text}
+use Rattle.samoa_ledger.proofs.EntryBound.{entries_of_ran-at_most}
+use Rattle.samoa_ledger.proofs.EntrySteps.{take_one_more}
+use Rattle.samoa_ledger.proofs.Gathering.{gathered_more}
+use Rattle.samoa_ledger.proofs.LaterText.{later_text-first, later_text-none}
 
 -- this was admitted to a core for the script, after k others
 pub record IsAt (script : Script) (core : Trace) (k : ℕ) (ext : Ext) : Type 0 where

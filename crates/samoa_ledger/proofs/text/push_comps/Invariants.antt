@@ -1,7 +1,7 @@
 use Rattle.std.proofs.Common.{◌≡◌, ◌-◌, ◌≤◌, ◌++◌, length, take, drop}
-use Rattle.samoa_run.specs.Gathering.{HasGathered}
-use Rattle.samoa_run.specs.Running.{AreTotals, later_text}
-use Rattle.samoa_run.proofs.text.push_comps.Given as goal
+use Rattle.samoa_ledger.specs.Gathering.{HasGathered}
+use Rattle.samoa_ledger.specs.Written.{AreTotals, later_text}
+use Rattle.samoa_ledger.proofs.text.push_comps.Given as goal
 
 abbrev pub invariant-loop-totals : goal.invariant-loop-totals
 invariant-loop-totals g l = record {

@@ -1,0 +1,6 @@
+pub mod Closing
+pub mod EntryBound
+pub mod EntrySteps
+pub mod Gathering
+pub mod LaterText
+pub mod OneMore
