@@ -8,11 +8,6 @@ use Rattle.samoa_model.specs.declared.ids.HandlerId.{HandlerId}
 use Rattle.samoa_model.specs.Entries.{calls_made}
 use Rattle.samoa_serial.specs.World.{calls_from, entry_of}
 
-pub calls_made-append : (xs ys : List Entry) → calls_made (xs ++ ys) ≡ calls_made xs + calls_made ys
-calls_made-append [] ys = omega arith
-calls_made-append (Entry.Accepted call caller handler arg ∷ xs) ys = let ih = calls_made-append xs ys in omega arith
-calls_made-append (_ ∷ xs) ys = calls_made-append xs ys
-
 -- a list that reads backwards as a nonempty one isn't empty
 pub length_of_reverse : (xs : List Active) (a : Active) (rest : List Active) → reverse xs ≡ a ∷ rest → length xs ≡ suc (length rest)
 length_of_reverse xs a rest e = sym (length-reverse xs) ∙ ap (λ (ys : List Active). length ys) e
@@ -29,11 +24,6 @@ entries_of-more caller arg n (x ∷ xs) h =
     let same : n + 1 + length xs + 1 ≡ n + suc (length xs) + 1 = omega arith in
     ap (λ (es : List Entry). entry_of caller arg (record { number = n + 1; handler = x }) ∷ es)
     (entries_of-more caller arg (n + 1) xs h ∙ ap (λ (k : ℕ). map (entry_of caller arg) (calls_from (n + 1) xs) ++ entry_of caller arg (record { number = k; handler = h }) ∷ []) same)
-
--- as many calls are made more as handlers are called
-pub calls_made-entries_of : (caller : ℕ) (arg : List ℕ) (cs : List Call) → calls_made (map (entry_of caller arg) cs) ≡ length cs
-calls_made-entries_of caller arg [] = refl
-calls_made-entries_of caller arg (c ∷ cs) = let ih = calls_made-entries_of caller arg cs in omega arith
 
 -- the step of a loop that enters the calls
 pub entries_step : (caller : ℕ) (arg : List ℕ) (n : ℕ) (hs : List HandlerId) (i number : ℕ) (d : HandlerId) → i < length hs → number ≡ n + i

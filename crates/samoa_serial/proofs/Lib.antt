@@ -1,7 +1,6 @@
 pub mod BatchLaws
 pub mod Bound
 pub mod CodeLaws
-mod ConsReference
 pub mod Declared
 pub mod DrainLaws
 pub mod End
@@ -10,8 +9,8 @@ pub mod EntryLaws
 pub mod Falls
 pub mod Fixed
 pub mod HistoryLaws
+pub mod Instances
 pub mod KeptLaws
-mod KindsReference
 pub mod Lengths
 pub mod LimitLaws
 pub mod ListLaws
@@ -20,6 +19,8 @@ pub mod RangeLaws
 pub mod Reach
 pub mod RebindingLaws
 pub mod Refine
+mod ReferenceCons
+mod ReferenceKinds
 mod ReferenceMoments
 mod ReferenceReport
 mod ReferenceRuns

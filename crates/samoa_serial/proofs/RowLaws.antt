@@ -43,11 +43,11 @@ AsksFor P setup = (place : ℕ) (arg frame : List ℕ) → place < length setup.
 pub record Row {S : Type 0} (P : Outcome → Type 0) (r : S × Outcome) : Type 0 where
   pub holds : P r.1
 
-either : {S : Type 0} (P : Outcome → Type 0) (b : Bool) {x y : S × Outcome} → Row P x → Row P y → Row P (if b then x else y)
+pub either : {S : Type 0} (P : Outcome → Type 0) (b : Bool) {x y : S × Outcome} → Row P x → Row P y → Row P (if b then x else y)
 either P true p q = p
 either P false p q = q
 
-either_outcome : (P : Outcome → Type 0) (b : Bool) {x y : Outcome} → P x → P y → P (if b then x else y)
+pub either_outcome : (P : Outcome → Type 0) (b : Bool) {x y : Outcome} → P x → P y → P (if b then x else y)
 either_outcome P true p q = p
 either_outcome P false p q = q
 
@@ -154,7 +154,7 @@ abcast-row P setup plain s (Moment.Resume handler frame reply) =
     (rests P setup plain s [])
 
 -- the replacement
-and_right : (a b : Bool) → (a && b) ≡ true → b ≡ true
+pub and_right : (a b : Bool) → (a && b) ≡ true → b ≡ true
 and_right true b e = e
 and_right false b e = absurd (grind (arith, common_steps, e))
 

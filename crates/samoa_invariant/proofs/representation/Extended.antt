@@ -130,11 +130,11 @@ record Counts (P : Play) (core : Core) (step : model.Step) : Type 0 where
   concerns : concerned core step < (model.made_by P core step).count
   grows : core.count ≤ (model.made_by P core step).count
 
-leave_count : (P : Play) (core : Core) (k : ℕ) (next : Option (Call × Moment)) → (model.leave_next P core k next).count ≡ core.count
+pub leave_count : (P : Play) (core : Core) (k : ℕ) (next : Option (Call × Moment)) → (model.leave_next P core k next).count ≡ core.count
 leave_count P core k None = refl
 leave_count P core k (Some next) = refl
 
-abandon_count : (P : Play) (core : Core) (k : ℕ) (next : Option (Call × Moment)) → (model.abandon_next P core k next).count ≡ core.count
+pub abandon_count : (P : Play) (core : Core) (k : ℕ) (next : Option (Call × Moment)) → (model.abandon_next P core k next).count ≡ core.count
 abandon_count P core k None = refl
 abandon_count P core k (Some next) = refl
 

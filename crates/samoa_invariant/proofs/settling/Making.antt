@@ -39,33 +39,6 @@ release-spent t c p run due new =
     let below = there.enabled.turn.below in
     omega arith
 
--- where no later computation of its node declares the microprotocol, none is due there afterwards
-pub release-last : (t : Trace) (c p : ℕ) → IsRun t → IsDue t (Step.Release c p)
-    → ((d : ℕ) → c < d → d ≤ (state t).count → (play t).node (d - 1) ≡ (play t).node (c - 1) → weight ((play t).decl (d - 1)) p ≡ 0)
-    → (d : ℕ) → (play t).node (d - 1) ≡ (play t).node (c - 1) → IsDue (with_step t (Step.Release c p)) (Step.Release d p) → ⊥
-release-last t c p run due last d same new = go (release-opens t c p d p run due new)
-  where
-    after : Trace
-    after = with_step t (Step.Release c p)
-
-    declared : 0 < weight ((play t).decl (d - 1)) p
-    declared = turn_declares (play t) (state after) (d - 1) p (invariant after (is_run-with_step t (Step.Release c p) run due)) new.enabled.turn
-
-    go : ((c < d) × ((play t).node (d - 1) ≡ (play t).node (c - 1)) × (p ≡ p)) ⊎ IsDue t (Step.Release d p) → ⊥
-    go (inl later) =
-        let there = due-after t (Step.Release c p) (Step.Release d p) run new in
-        let number : 0 < d = there.number in
-        let admitted = there.enabled.turn.admitted in
-        let none = last d later.0 (omega arith) same in
-        let some = declared in
-        omega arith
-    go (inr still) =
-        let is : d - 1 ≡ c - 1 = turns_same (play t) (state t) (d - 1) p (c - 1) p (invariant t run) same refl still.enabled.turn due.enabled.turn in
-        let first : 0 < d = still.number in
-        let number : 0 < c = due.number in
-        let e : d ≡ c = omega arith in
-        release-spent t c p run due (subst (λ (x : ℕ). IsDue (with_step t (Step.Release c p)) (Step.Release x p)) e new)
-
 -- an end lets no other become due, and isn't due a second time
 pub end-opens : (t : Trace) (c d : ℕ) → IsRun t → IsDue t (Step.End c) → IsDue (with_step t (Step.End c)) (Step.End d) → IsDue t (Step.End d) × (d ≢ c)
 end-opens t c d run due new =
@@ -187,21 +160,6 @@ releases_before-run t u c run r = run-after t u r.steps r.made run r.due
 before-more : (c d : ℕ) → c ≤ d → (x : Step) → IsReleaseBefore c x → IsReleaseBefore d x
 before-more c d le (Step.Release j p) is = let lt : j < c = is in omega arith
 before-more c d le x is = absurd is
-
--- computations with no release due are passed over
-pub releases_before-skip : (t u : Trace) (c d : ℕ) → ReleasesBefore t u c → c ≤ d → ((j p : ℕ) → c ≤ j → j < d → IsDue u (Step.Release j p) → ⊥) → ReleasesBefore t u d
-releases_before-skip t u c d r le not_due = record {
-  steps = r.steps;
-  made = r.made;
-  due = r.due;
-  releases = All-weaker (IsReleaseBefore c) (IsReleaseBefore d) (before-more c d le) r.steps r.releases;
-  rising = r.rising;
-  none = λ j p lt. at j p lt (cases_lt j c);
-}
-  where
-    at : (j p : ℕ) → j < d → (j < c) ⊎ (c ≤ j) → IsDue u (Step.Release j p) → ⊥
-    at j p lt (inl before) = r.none j p before
-    at j p lt (inr from) = not_due j p from lt
 
 before-of : (c m : ℕ) (x : Step) → IsReleaseOf c m x → IsReleaseBefore (suc c) x
 before-of c m (Step.Release j p) is = let e : j ≡ c = is.0 in omega arith

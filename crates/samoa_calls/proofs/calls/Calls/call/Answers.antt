@@ -4,8 +4,8 @@ use Rattle.samoa_model.specs.declared.ids.HandlerId.{HandlerId}
 use Rattle.samoa_serial.specs.declared.call.Active.{Active}
 use Rattle.samoa_model.specs.declared.record.Entry.{Entry}
 use Rattle.samoa_model.specs.Entries.{calls_made}
-use Rattle.samoa_calls.proofs.Made.{calls_made-append, calls_made-entries_of, length-entries_of, length_of_reverse}
-use Rattle.samoa_serial.proofs.Lengths.{length-calls_from, length-to_begin}
+use Rattle.samoa_calls.proofs.Made.{length-entries_of, length_of_reverse}
+use Rattle.samoa_serial.proofs.Lengths.{length-calls_from, length-to_begin, calls_made-append, calls_made-entries_of}
 use Rattle.samoa_model.specs.Allowed.{Attempt}
 use Rattle.samoa_model.specs.Allowed.{attempt_all}
 use Rattle.samoa_serial.specs.World.{handler_of}

@@ -6,7 +6,8 @@ use Rattle.samoa_serial.specs.declared.call.Active.{Active}
 use Rattle.samoa_serial.specs.declared.call.Call.{Call}
 use Rattle.samoa_serial.specs.World.{Books, noted}
 use Rattle.samoa_calls.specs.Handed.{handed}
-use Rattle.samoa_calls.proofs.Made.{calls_made-append, length_of_reverse}
+use Rattle.samoa_calls.proofs.Made.{length_of_reverse}
+use Rattle.samoa_serial.proofs.Lengths.{calls_made-append}
 use Rattle.samoa_calls.proofs.Taken.{handed-some, not_empty, popped_back, some_first}
 use Rattle.samoa_calls.specs.Held.{Calling}
 use Rattle.samoa_calls.proofs.Counts.{counts_noted}

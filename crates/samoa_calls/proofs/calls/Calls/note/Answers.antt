@@ -1,6 +1,7 @@
 use Rattle.std.proofs.Common.{◌∷◌, [], arith, ap, ◌∙◌}
 use Rattle.samoa_model.specs.Entries.{calls_made}
-use Rattle.samoa_calls.proofs.Made.{calls_made-append, length_of_reverse}
+use Rattle.samoa_calls.proofs.Made.{length_of_reverse}
+use Rattle.samoa_serial.proofs.Lengths.{calls_made-append}
 use Rattle.samoa_calls.specs.Held.{Calling}
 use Rattle.samoa_calls.proofs.Counts.{counts_noted}
 use Rattle.samoa_calls.proofs.calls.Calls.note.Goals as goal

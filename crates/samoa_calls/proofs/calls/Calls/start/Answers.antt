@@ -8,8 +8,8 @@ use Rattle.samoa_serial.specs.declared.call.Active.{Active}
 use Rattle.samoa_serial.specs.World.{handler_of}
 use Rattle.samoa_serial.specs.Calls.{Computation}
 use Rattle.samoa_calls.specs.Tried.{active_after, entries_after}
-use Rattle.samoa_calls.proofs.Made.{calls_made-append, calls_made-entries_of, length-entries_of}
-use Rattle.samoa_serial.proofs.Lengths.{length-calls_from, length-to_begin}
+use Rattle.samoa_calls.proofs.Made.{length-entries_of}
+use Rattle.samoa_serial.proofs.Lengths.{length-calls_from, length-to_begin, calls_made-append, calls_made-entries_of}
 use Rattle.samoa_calls.proofs.Tries.{accepts_is, refuses_is, entries_after-accepted, active_after-accepted}
 use Rattle.samoa_calls.specs.Held.{Calling}
 use Rattle.samoa_calls.proofs.calls.Calls.start.Goals as goal

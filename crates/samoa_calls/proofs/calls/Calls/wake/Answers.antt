@@ -11,8 +11,8 @@ use Rattle.samoa_serial.specs.World.{attempts_of, handler_of}
 use Rattle.samoa_model.specs.Allowed.{attempt_all}
 use Rattle.samoa_bind.specs.Bound.{table_at}
 use Rattle.samoa_calls.specs.Tried.{active_after, entries_after}
-use Rattle.samoa_calls.proofs.Made.{calls_made-append, calls_made-entries_of, length-entries_of}
-use Rattle.samoa_serial.proofs.Lengths.{length-calls_from, length-to_begin}
+use Rattle.samoa_calls.proofs.Made.{length-entries_of}
+use Rattle.samoa_serial.proofs.Lengths.{length-calls_from, length-to_begin, calls_made-append, calls_made-entries_of}
 use Rattle.samoa_calls.proofs.Tries.{accepts_is, refuses_is, entries_after-accepted, active_after-accepted}
 use Rattle.samoa_calls.proofs.Wakes.{wake_refused, wake_accepted, names_first, names_later, empty_backwards}
 use Rattle.samoa_calls.specs.Held.{Calling}
