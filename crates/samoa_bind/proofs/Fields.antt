@@ -4,7 +4,7 @@ use Rattle.std.specs.List.{All}
 use Rattle.std.proofs.lemmas.List.{get_or-map, get_or_past, get_or_push, get_or-replicate, get_or-set_same, length-map, length-replicate, map-set}
 use Rattle.std.proofs.Math.ListN.{get_or-map as get_or_map_default}
 use Rattle.std.proofs.lemmas.Bool.{cases_lt}
-use Rattle.std.proofs.lemmas.List.Elements.{All-map, All-nil, All-replicate, All-set, All-weaker}
+use Rattle.std.proofs.lemmas.List.Elements.{All-map, All-nil, All-replicate, All-weaker}
 use Rattle.samoa_model.specs.declared.ids.ChangeId.{ChangeId}
 use Rattle.samoa_model.specs.declared.ids.NodeId.{NodeId}
 use Rattle.samoa_model.specs.declared.script.TableDef.{TableDef}
@@ -18,8 +18,8 @@ use Rattle.samoa_bind.specs.declared.epochs.Epochs.{Epochs}
 use Rattle.samoa_bind.specs.declared.tables.Tables.TheInside.{Inside}
 use Rattle.samoa_bind.specs.Bound.{Bindings, epochs_of, first_tables, last_table, lists_of, table_at, with_change}
 use Rattle.samoa_bind.specs.Histories.{Past, found_after, meant_or, no_past, table_in, tables_to}
-use Rattle.samoa_bind.specs.Kept.{AreRows, HasRoom, IsBinding, IsFirst, IsKept, IsNode, IsRoomier, bindings_in, histories_of, tables_of}
-use Rattle.samoa_bind.proofs.Histories.{found-one, length-rebound, length-table, length-tables, node-roomier, table-at, table-first, tables-at, tables-roomier}
+use Rattle.samoa_bind.specs.Kept.{AreRows, IsBinding, IsFirst, IsKept, IsNode, IsRoomier, bindings_in, histories_of, tables_of}
+use Rattle.samoa_bind.proofs.Histories.{found-one, length-rebound, length-table, length-tables, table-at, table-first, tables-at, tables-roomier}
 
 -- the tables of a node
 pub epochs-at : (t : Inside) (node : ℕ) (x : Epochs) → node < length t.nodes.items → x ≡ get_or t.nodes.items node x
@@ -106,19 +106,6 @@ pub epochs-roomier : (changes : List (List TableDef)) (first : Table) (xs ys : L
     → ((node : ℕ) (none : Epochs) → IsRoomier (get_or xs node none) (get_or ys node none)) → map (tables_of changes first) ys ≡ map (tables_of changes first) xs
 epochs-roomier changes first xs ys e all = same-map (tables_of changes first) xs ys e (λ i d. tables-roomier changes first (get_or xs i d) (get_or ys i d) (all i d))
 
--- the nodes are kept where they have more room
-pub nodes-roomier : (events : ℕ) (changes : List (List TableDef)) (room : ℕ) (xs ys : List Epochs) → length ys ≡ length xs
-    → ((node : ℕ) (none : Epochs) → IsRoomier (get_or xs node none) (get_or ys node none)) → All (IsNode events changes room) xs → All (IsNode events changes room) ys
-nodes-roomier events changes room xs ys e all is k d lt =
-    node-roomier events changes room (get_or xs k d) (get_or ys k d) (all k d) (is k d (omega (arith, e, lt)))
-
-pub nodes-with_room : (events : ℕ) (changes : List (List TableDef)) (room : ℕ) (xs ys : List Epochs) → length ys ≡ length xs
-    → ((node : ℕ) (none : Epochs) → IsRoomier (get_or xs node none) (get_or ys node none)) → All (IsNode events changes room) xs → All (HasRoom changes) ys
-    → All (IsNode events changes 1) ys
-nodes-with_room events changes room xs ys e all is has k d lt =
-    let was = nodes-roomier events changes room xs ys e all is k d lt in
-    record { size = was.size; bindings = was.bindings; spare = λ some. has k d lt }
-
 -- a change at a node
 pub rebound-at : (t : Inside) (node : NodeId) (change : ChangeId) (x y : Epochs) → IsKept t → node.0 < length t.nodes.items → x ≡ get_or t.nodes.items node.0 x
     → ((first : Table) → length first ≡ length x.histories.items
@@ -135,12 +122,6 @@ rebound-at t node change x y kept lt is tables =
     (tables t.first.items (sym mine.size)
     ∙ (ap (λ (ts : List Table). ts ++ rebound (get_or t.changes.items change.0 []) (table_in t.changes.items x.last t.first.items (histories_of x)) ∷ []) (sym (epochs-at t node.0 x lt is))
     ∙ ap (λ (table : Table). get_or (bindings_in t).epochs node.0 [] ++ rebound (get_or t.changes.items change.0 []) table ∷ []) (sym last)))
-
-pub nodes-rebound : (events : ℕ) (changes : List (List TableDef)) (room node : ℕ) (xs : List Epochs) (y : Epochs) → IsNode events changes 0 y → All (IsNode events changes room) xs
-    → All (IsNode events changes 0) (set xs node y)
-nodes-rebound events changes room node xs y is all =
-    All-set (IsNode events changes 0) xs node y is
-    (All-weaker (IsNode events changes room) (IsNode events changes 0) (λ x was. record { size = was.size; bindings = was.bindings; spare = λ some. absurd (omega (arith, some)) }) xs all)
 
 -- one epoch for each node
 pub first-epochs : (changes : List (List TableDef)) (first : Table) (xs : List Epochs) (n : ℕ) → length xs ≡ n → All (IsFirst (length first)) xs

@@ -8,7 +8,7 @@ use Rattle.samoa_model.specs.declared.script.TableDef.{TableDef}
 use Rattle.samoa_model.specs.Scripts.{Table, rebound}
 use Rattle.samoa_bind.specs.declared.history.Binding.{Binding}
 use Rattle.samoa_bind.specs.Histories.{Past, found_after, meant, meant_or, no_past, table_in, tables_to}
-use Rattle.samoa_bind.specs.Kept.{HasRoom, IsBinding, IsNode, IsRoomier, histories_of, tables_of}
+use Rattle.samoa_bind.specs.Kept.{HasRoom, IsBinding, IsRoomier, histories_of, tables_of}
 use Rattle.samoa_bind.specs.declared.epochs.Epochs.{Epochs}
 use Rattle.std.proofs.Math.Seq.{map-set_same}
 
@@ -123,10 +123,6 @@ one-less-room (y ∷ hs) zero h x (suc event) is e = omega arith
 one-less-room (y ∷ hs) (suc i) h x zero is e = omega arith
 one-less-room (y ∷ hs) (suc i) h x (suc event) is e = one-less-room hs i h x event is e
 
--- more room is room as well
-pub roomier-itself : (x : Epochs) → IsRoomier x x
-roomier-itself x = record { last = refl; histories = refl; room = λ event. omega arith }
-
 pub roomier-than : (x y z : Epochs) → IsRoomier x y → IsRoomier y z → IsRoomier x z
 roomier-than x y z a b = record {
   last = b.last ∙ a.last;
@@ -146,14 +142,6 @@ as-many-events x y a =
     let one = length-map y.histories.items (λ (p : Past). p.bindings) in
     let two = length-map x.histories.items (λ (p : Past). p.bindings) in
     omega (arith, long, one, two)
-
--- a node that is kept, with more room
-pub node-roomier : (events : ℕ) (changes : List (List TableDef)) (room : ℕ) (x y : Epochs) → IsRoomier x y → IsNode events changes room x → IsNode events changes room y
-node-roomier events changes room x y a is = record {
-  size = as-many-events x y a ∙ is.size;
-  bindings = rw (a.histories, a.last) is.bindings;
-  spare = λ some. still-room changes x y a (is.spare some);
-}
 
 pub tables-roomier : (changes : List (List TableDef)) (first : Table) (x y : Epochs) → IsRoomier x y → tables_of changes first y ≡ tables_of changes first x
 tables-roomier changes first x y a =

@@ -5,7 +5,6 @@ use Rattle.samoa_model.specs.declared.record.Entry.{Entry}
 use Rattle.samoa_serial.specs.declared.call.Active.{Active}
 use Rattle.samoa_serial.specs.declared.call.Call.{Call}
 use Rattle.samoa_model.specs.declared.ids.HandlerId.{HandlerId}
-use Rattle.samoa_model.specs.Entries.{calls_made}
 use Rattle.samoa_serial.specs.World.{calls_from, entry_of}
 
 -- a list that reads backwards as a nonempty one isn't empty

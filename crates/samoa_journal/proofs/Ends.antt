@@ -1,10 +1,11 @@
 -- Where all have ended in a run.
-use Rattle.std.proofs.Common.{◌≡◌, ◌⊎◌, inl, inr, refl, sym, ap, subst, ◌∙◌, arith, ℕ, zero, suc, ◌+◌, ◌<◌, ◌≤◌, ◌==◌, Bool, true, false, ◌&&◌, ◌||◌, if◌then◌else◌, List, [], ◌∷◌, length, take, eqb-true, eq-eqb}
+use Rattle.std.proofs.Common.{◌≡◌, ◌⊎◌, inl, inr, refl, sym, ap, subst, ◌∙◌, arith, ℕ, zero, suc, ◌+◌, ◌<◌, ◌≤◌, ◌==◌, Bool, true, false, ◌&&◌, if◌then◌else◌, List, [], ◌∷◌, length, take, eqb-true, eq-eqb}
 use Rattle.std.proofs.lemmas.Bool.{false≢true}
 use Rattle.samoa_model.specs.declared.record.Step.{Step}
 use Rattle.samoa_invariant.specs.Play.{Play}
 use Rattle.samoa_invariant.specs.State.{AllEnded, Core}
 use Rattle.samoa_invariant.specs.Runs.{IsRising, after_step, clear_at, cleared, is_clear, run_from}
+use Rattle.std.proofs.lemmas.Bool.{and_parts}
 
 -- ---- whether all have ended
 abbrev pub all_to : (ℕ → Bool) → ℕ → Bool
@@ -14,13 +15,9 @@ all_to f (suc n) = all_to f n && f n
 abbrev pub all_ended : Core → Bool
 all_ended core = all_to core.ended core.count
 
-both : (a b : Bool) → (a && b) ≡ true → (a ≡ true) × (b ≡ true)
-both true b e = (refl, e)
-both false b e = absurd (false≢true e)
-
 all_tells : (f : ℕ → Bool) (n : ℕ) → all_to f n ≡ true → (k : ℕ) → k < n → f k ≡ true
 all_tells f zero all k less = absurd (omega arith)
-all_tells f (suc n) all k less = go (λ below. all_tells f n (both (all_to f n) (f n) all).0 k below) (eqb-cases k n)
+all_tells f (suc n) all k less = go (λ below. all_tells f n (and_parts (all_to f n) (f n) all).0 k below) (eqb-cases k n)
   where
     eqb-cases : (a b : ℕ) → (a ≡ b) ⊎ ((a == b) ≡ false)
     eqb-cases a b = at (a == b) refl
@@ -30,7 +27,7 @@ all_tells f (suc n) all k less = go (λ below. all_tells f n (both (all_to f n) 
         at false e = inr e
 
     go : (k < n → f k ≡ true) → (k ≡ n) ⊎ ((k == n) ≡ false) → f k ≡ true
-    go before (inl is) = ap f is ∙ (both (all_to f n) (f n) all).1
+    go before (inl is) = ap f is ∙ (and_parts (all_to f n) (f n) all).1
     go before (inr other) = before (omega (arith, apart, less))
       where
         apart : k ≡ n → ⊥

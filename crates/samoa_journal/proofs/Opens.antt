@@ -1,11 +1,9 @@
 -- A core that runs in parts opens each tick where all have ended.
-use Rattle.std.proofs.Common.{◌≡◌, ◌⊎◌, inl, inr, refl, sym, ap, subst, ◌∙◌, arith, ℕ, zero, suc, ◌+◌, ◌-◌, ◌<◌, ◌≤◌, ◌==◌, ◌||◌, Bool, true, false, if◌then◌else◌, List, [], ◌∷◌, ◌++◌, append_assoc, length, length-append, take, slice_get, Option, Some, None, eq-eqb}
+use Rattle.std.proofs.Common.{◌≡◌, ◌⊎◌, inl, inr, refl, sym, ap, subst, ◌∙◌, arith, ℕ, zero, suc, ◌+◌, ◌-◌, ◌<◌, ◌≤◌, ◌==◌, ◌||◌, Bool, true, false, if◌then◌else◌, List, [], ◌∷◌, ◌++◌, append_assoc, length, length-append, take, slice_get, Some, eq-eqb}
 use Rattle.std.proofs.lemmas.Bool.{cases_order}
 use Rattle.std.proofs.lemmas.Option.{slice_get_within}
-use Rattle.samoa_model.specs.declared.handler.Moment.{Moment}
 use Rattle.samoa_model.specs.declared.record.Ext.{Ext}
 use Rattle.samoa_model.specs.declared.record.Step.{Step}
-use Rattle.samoa_serial.specs.declared.call.Call.{Call}
 use Rattle.samoa_serial.specs.Alone.{next_step}
 use Rattle.samoa_serial.specs.Lists.{Each}
 use Rattle.samoa_invariant.specs.Play.{Play}
@@ -15,6 +13,7 @@ use Rattle.samoa_invariant.specs.Runs.{IsRun, IsRunFrom, Trace, after_step, clea
 use Rattle.samoa_journal.specs.Finished.{IsFirstOfTick, OpensTicks, after}
 use Rattle.samoa_journal.specs.Parts.{AdmitsNone, HasParts, IsPacked, IsPart, Part, admits, ends_from, exts_of, part_steps, steps_from}
 use Rattle.samoa_journal.proofs.Parts.{Stands, admit_at, in_part, length-admits, none_at, slice_left, slice_right}
+use Rattle.samoa_invariant.proofs.representation.Extended.{abandon_count, leave_count}
 
 -- ---- where each admission stands
 or_there : (b : Bool) → (b || true) ≡ true
@@ -132,14 +131,6 @@ how_many (Step.Leave comp ∷ steps) = how_many steps
 how_many (Step.Abandon comp ∷ steps) = how_many steps
 how_many (Step.Release comp micro ∷ steps) = how_many steps
 how_many (Step.End comp ∷ steps) = how_many steps
-
-leave_count : (P : Play) (core : Core) (k : ℕ) (next : Option (Call × Moment)) → (model.leave_next P core k next).count ≡ core.count
-leave_count P core k None = refl
-leave_count P core k (Some next) = refl
-
-abandon_count : (P : Play) (core : Core) (k : ℕ) (next : Option (Call × Moment)) → (model.abandon_next P core k next).count ≡ core.count
-abandon_count P core k None = refl
-abandon_count P core k (Some next) = refl
 
 step_count : (P : Play) (core : Core) (step : Step) → (after_step P core step).count ≡ core.count + how_many (step ∷ [])
 step_count P core (Step.Admit comp) = omega arith

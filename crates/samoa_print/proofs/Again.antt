@@ -36,9 +36,10 @@ use Rattle.samoa_model.specs.Handlers.{handler_text}
 use Rattle.samoa_print.specs.Texts.{micro_text, decl_text, event_text, change_text, kind_text}
 use Rattle.samoa_print.specs.Canonical.{number_tree, list_tree, instr_tree, code_tree, micro_members, micro_tree, bound_tree, edge_tree, decl_members, decl_tree, event_tree, table_tree, change_tree, do_members, do_tree, loss_tree, crash_tree, tree_of}
 use Rattle.samoa_print.proofs.Back.{handlers_back, micro_back, bound_back, vertex_text, edge_back, body_back, decl_back, event_back, table_back, change_back, cause_back, do_back, loss_back, crash_back, draft_back}
-use Rattle.samoa_print.proofs.Parts.{none_then, Each, each_map, each_more, each_all, IsNamed, IsHandlerNamed, IsWithin, keys_pass, name_passes, number_again, from_again, items_again, objects_again, of_again}
+use Rattle.samoa_print.proofs.Parts.{none_then, each_map, each_more, each_all, IsNamed, IsHandlerNamed, IsWithin, keys_pass, name_passes, number_again, from_again, items_again, objects_again, of_again}
 use Rattle.samoa_print.proofs.Instrs.{IsProper, is_instr_again, instr_of_again}
 use Rattle.samoa_print.proofs.Forms.{AreListed, AreHandlers, AreAll, CodeForm, HandlersForm, MicroForm, BoundForm, EdgeForm, BodyForm, DeclForm, EventForm, TableForm, ChangeForm, CauseForm, DoForm, DraftForm}
+use Rattle.std.specs.List.{AllByRecursion}
 
 -- ---- lists
 
@@ -75,7 +76,7 @@ objects_all P fault of tree back again least most key xs h =
     (rw (length-map xs back) at h.some) (rw (length-map xs back) at h.few)
 
 objects_same : {X Y : Type 0} (P : Y → Type 0) (fault : List ℕ → Data → Option WalkFault) (of : Data → Y) (tree : X → Data) (back : X → Y)
-    → ((x : X) → P (back x) → IsAgain fault of (tree x) (back x)) → (xs : List X) → Each P (map back xs) → map of (list_of (list_tree tree xs)) ≡ map back xs
+    → ((x : X) → P (back x) → IsAgain fault of (tree x) (back x)) → (xs : List X) → AllByRecursion P (map back xs) → map of (list_of (list_tree tree xs)) ≡ map back xs
 objects_same P fault of tree back again xs h =
     of_again of tree back xs (each_more (λ x. P (back x)) (λ x. of (tree x) ≡ back x) (λ x p. (again x p).means) xs (each_map P back xs h))
 
@@ -161,7 +162,7 @@ micro_means true s m h =
     let nums = numbers_same m.nums in
     let ports = texts_same (event_text s) m.ports in
     let changes = texts_same (change_text s) m.changes in
-    let handlers = objects_same CodeForm code_fault code_of code_tree (λ c. c) code_again m.handlers (subst (Each CodeForm) (sym (map-id m.handlers)) h.each) ∙ map-id m.handlers in
+    let handlers = objects_same CodeForm code_fault code_of code_tree (λ c. c) code_again m.handlers (subst (AllByRecursion CodeForm) (sym (map-id m.handlers)) h.each) ∙ map-id m.handlers in
     λ i. record { name = m.name; kind = kind i; nums = nums i; ports = ports i; changes = changes i; handlers = handlers i }
 micro_means false s m h =
     let kind = ap kind_or_prog (kind_in_again false s m) in

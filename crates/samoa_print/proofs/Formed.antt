@@ -1,7 +1,7 @@
 -- A valid script with its names again has the form of a draft.
 use Rattle.std.proofs.Common.{◌≡◌, ℕ, ◌<◌, ◌≤◌, true, List, [], ◌∷◌, length, map, get_or, refl, sym, subst, arith}
 use Rattle.std.specs.Prelude.{◌&&◌}
-use Rattle.std.specs.List.{All}
+use Rattle.std.specs.List.{AllByRecursion, All}
 use Rattle.std.proofs.lemmas.Bool.{and_from}
 use Rattle.std.proofs.lemmas.Bool.Decides.{nat_tests}
 use Rattle.std.proofs.lemmas.List.{length-map, get_or-map}
@@ -33,11 +33,11 @@ use Rattle.samoa_grammar.specs.Forms.{is_prog}
 use Rattle.samoa_print.proofs.Instrs.{is_place, is_count, is_skip, is_position, IsProper}
 use Rattle.samoa_print.specs.Texts.{micro_text, event_text, change_text}
 use Rattle.samoa_print.proofs.Back.{handlers_back, micro_back, bound_back, vertex_text, edge_back, body_back, decl_back, event_back, table_back, change_back, cause_back, do_back, loss_back, crash_back, draft_back}
-use Rattle.samoa_print.proofs.Parts.{Each, map_each, IsNamed, IsHandlerNamed}
+use Rattle.samoa_print.proofs.Parts.{map_each, IsNamed, IsHandlerNamed}
 use Rattle.samoa_print.proofs.Forms.{AreListed, AreHandlers, AreAll, CodeForm, HandlersForm, MicroForm, BoundForm, EdgeForm, BodyForm, DeclForm, EventForm, TableForm, ChangeForm, CauseForm, DoForm, DraftForm}
 use Rattle.samoa_print.proofs.Named.{IsHandlerText, micro_kept, decl_kept, event_kept, change_kept, handler_kept}
 
-pub each_from : {X : Type 0} (P : X → Type 0) (xs : List X) → All P xs → Each P xs
+pub each_from : {X : Type 0} (P : X → Type 0) (xs : List X) → All P xs → AllByRecursion P xs
 each_from P [] all = tt
 each_from P (x ∷ xs) all = (All-head P x xs all, each_from P xs (All-tail P x xs all))
 

@@ -16,25 +16,26 @@ use Rattle.samoa_grammar.specs.declared.draft.DoDraft.{DoDraft}
 use Rattle.samoa_grammar.specs.declared.draft.Draft.{Draft}
 use Rattle.samoa_grammar.specs.Forms.{is_prog}
 use Rattle.samoa_print.proofs.Instrs.{IsProper}
-use Rattle.samoa_print.proofs.Parts.{Each, IsNamed, IsHandlerNamed, IsWithin}
+use Rattle.samoa_print.proofs.Parts.{IsNamed, IsHandlerNamed, IsWithin}
+use Rattle.std.specs.List.{AllByRecursion}
 
 pub record AreListed (least most : ℕ) (names : List (List ℕ)) : Type 0 where
-  pub each : Each IsNamed names
+  pub each : AllByRecursion IsNamed names
   pub some : least ≤ length names
   pub few : length names ≤ most
 
 pub record AreHandlers (most : ℕ) (names : List (List ℕ)) : Type 0 where
-  pub each : Each IsHandlerNamed names
+  pub each : AllByRecursion IsHandlerNamed names
   pub few : length names ≤ most
 
 pub record AreAll {X : Type 0} (least most : ℕ) (P : X → Type 0) (xs : List X) : Type 0 where
-  pub each : Each P xs
+  pub each : AllByRecursion P xs
   pub some : least ≤ length xs
   pub few : length xs ≤ most
 
 pub record CodeForm (c : CodeDef) : Type 0 where
   pub name : IsNamed c.name
-  pub code : Each IsProper c.code
+  pub code : AllByRecursion IsProper c.code
   pub few : length c.code ≤ 32
 
 abbrev pub HandlersForm : Bool → List CodeDef → Type 0

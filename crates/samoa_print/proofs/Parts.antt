@@ -1,7 +1,7 @@
 -- Parts of the walk: how tests pass one after another, and tests that a canonical part passes.
 use Rattle.std.proofs.Common.{◌≡◌, ℕ, ◌≤◌, Bool, true, List, [], ◌∷◌, length, map, Option, Some, None, refl, ap, ap₂, ◌∙◌, arith, cond}
 use Rattle.std.specs.Prelude.{◌&&◌, nat_le, nat_lt}
-use Rattle.std.specs.List.{list_all}
+use Rattle.std.specs.List.{AllByRecursion, list_all}
 use Rattle.std.proofs.lemmas.Bool.Decides.{nat_tests}
 use Rattle.std.proofs.lemmas.List.{length-map}
 use Rattle.serde_json.specs.Data.{Data, string}
@@ -24,32 +24,28 @@ none_then (Some f) b p q = cc
 
 -- ---- what holds of each item
 
-abbrev pub Each : {X : Type 0} → (X → Type 0) → List X → Type 0
-Each P [] = Unit {0}
-Each P (x ∷ xs) = P x × Each P xs
-
-pub each_map : {X Y : Type 0} (P : Y → Type 0) (f : X → Y) (xs : List X) → Each P (map f xs) → Each (λ x. P (f x)) xs
+pub each_map : {X Y : Type 0} (P : Y → Type 0) (f : X → Y) (xs : List X) → AllByRecursion P (map f xs) → AllByRecursion (λ x. P (f x)) xs
 each_map P f [] h = tt
 each_map P f (x ∷ xs) h = (h.0, each_map P f xs h.1)
 
-pub map_each : {X Y : Type 0} (P : Y → Type 0) (f : X → Y) (xs : List X) → Each (λ x. P (f x)) xs → Each P (map f xs)
+pub map_each : {X Y : Type 0} (P : Y → Type 0) (f : X → Y) (xs : List X) → AllByRecursion (λ x. P (f x)) xs → AllByRecursion P (map f xs)
 map_each P f [] h = tt
 map_each P f (x ∷ xs) h = (h.0, map_each P f xs h.1)
 
-pub each_all : {X : Type 0} (P : X → Type 0) → ((x : X) → P x) → (xs : List X) → Each P xs
+pub each_all : {X : Type 0} (P : X → Type 0) → ((x : X) → P x) → (xs : List X) → AllByRecursion P xs
 each_all P all [] = tt
 each_all P all (x ∷ xs) = (all x, each_all P all xs)
 
-pub each_more : {X : Type 0} (P Q : X → Type 0) → ((x : X) → P x → Q x) → (xs : List X) → Each P xs → Each Q xs
+pub each_more : {X : Type 0} (P Q : X → Type 0) → ((x : X) → P x → Q x) → (xs : List X) → AllByRecursion P xs → AllByRecursion Q xs
 each_more P Q more [] h = tt
 each_more P Q more (x ∷ xs) h = (more x h.0, each_more P Q more xs h.1)
 
 -- every item is seen by `to` as another sees it
-pub map_same : {X Y : Type 0} (f g : X → Y) (xs : List X) → Each (λ x. f x ≡ g x) xs → map f xs ≡ map g xs
+pub map_same : {X Y : Type 0} (f g : X → Y) (xs : List X) → AllByRecursion (λ x. f x ≡ g x) xs → map f xs ≡ map g xs
 map_same f g [] h = refl
 map_same f g (x ∷ xs) h = ap₂ (λ y ys. y ∷ ys) h.0 (map_same f g xs h.1)
 
-pub map_itself : {X : Type 0} (f : X → X) (xs : List X) → Each (λ x. f x ≡ x) xs → map f xs ≡ xs
+pub map_itself : {X : Type 0} (f : X → X) (xs : List X) → AllByRecursion (λ x. f x ≡ x) xs → map f xs ≡ xs
 map_itself f [] h = refl
 map_itself f (x ∷ xs) h = ap₂ (λ y ys. y ∷ ys) h.0 (map_itself f xs h.1)
 
@@ -87,7 +83,7 @@ items_list-items_of (d ∷ ds) = ap (λ xs. d ∷ xs) (items_list-items_of ds)
 pub list_again : {X : Type 0} (tree : X → Data) (xs : List X) → list_of (list_tree tree xs) ≡ map tree xs
 list_again tree xs = items_list-items_of (map tree xs)
 
-all_pass : {X : Type 0} (passes : Data → Bool) (tree : X → Data) (xs : List X) → Each (λ x. passes (tree x) ≡ true) xs → list_all passes (map tree xs) ≡ true
+all_pass : {X : Type 0} (passes : Data → Bool) (tree : X → Data) (xs : List X) → AllByRecursion (λ x. passes (tree x) ≡ true) xs → list_all passes (map tree xs) ≡ true
 all_pass passes tree [] h = refl
 all_pass passes tree (x ∷ xs) h = ap₂ (λ a b. a && b) h.0 (all_pass passes tree xs h.1)
 
@@ -108,12 +104,12 @@ items_from least most passes key d ds list is each some few =
     rw (list, is, each, a) b
 
 pub items_again : {X : Type 0} (least most : ℕ) (passes : Data → Bool) (key : List ℕ) (tree : X → Data) (xs : List X)
-    → Each (λ x. passes (tree x) ≡ true) xs → least ≤ length xs → length xs ≤ most → items_fault least most passes key (list_tree tree xs) ≡ None
+    → AllByRecursion (λ x. passes (tree x) ≡ true) xs → least ≤ length xs → length xs ≤ most → items_fault least most passes key (list_tree tree xs) ≡ None
 items_again least most passes key tree xs each some few =
     items_from least most passes key (list_tree tree xs) (map tree xs) refl (list_again tree xs) (all_pass passes tree xs each)
     (rw (length-map xs tree) some) (rw (length-map xs tree) few)
 
-along_again : {X : Type 0} (fault : Data → Option WalkFault) (tree : X → Data) (xs : List X) → Each (λ x. fault (tree x) ≡ None) xs → first_along fault (map tree xs) ≡ None
+along_again : {X : Type 0} (fault : Data → Option WalkFault) (tree : X → Data) (xs : List X) → AllByRecursion (λ x. fault (tree x) ≡ None) xs → first_along fault (map tree xs) ≡ None
 along_again fault tree [] h = refl
 along_again fault tree (x ∷ xs) h = none_then (fault (tree x)) (first_along fault (map tree xs)) h.0 (along_again fault tree xs h.1)
 
@@ -124,11 +120,11 @@ objects_from least most object key d ds list is each some few =
     rw (list, is, a) each
 
 pub objects_again : {X : Type 0} (least most : ℕ) (object : List ℕ → Data → Option WalkFault) (key : List ℕ) (tree : X → Data) (xs : List X)
-    → Each (λ x. object key (tree x) ≡ None) xs → least ≤ length xs → length xs ≤ most → list_fault least most object key (list_tree tree xs) ≡ None
+    → AllByRecursion (λ x. object key (tree x) ≡ None) xs → least ≤ length xs → length xs ≤ most → list_fault least most object key (list_tree tree xs) ≡ None
 objects_again least most object key tree xs each some few =
     objects_from least most object key (list_tree tree xs) (map tree xs) refl (list_again tree xs) (along_again (object key) tree xs each)
     (rw (length-map xs tree) some) (rw (length-map xs tree) few)
 
 -- the meanings of a canonical list
-pub of_again : {X Y : Type 0} (of : Data → Y) (tree : X → Data) (back : X → Y) (xs : List X) → Each (λ x. of (tree x) ≡ back x) xs → map of (list_of (list_tree tree xs)) ≡ map back xs
+pub of_again : {X Y : Type 0} (of : Data → Y) (tree : X → Data) (back : X → Y) (xs : List X) → AllByRecursion (λ x. of (tree x) ≡ back x) xs → map of (list_of (list_tree tree xs)) ≡ map back xs
 of_again of tree back xs each = ap (map of) (list_again tree xs) ∙ map_map of tree xs ∙ map_same (λ x. of (tree x)) back xs each

@@ -48,24 +48,13 @@ example = record { step = λ p s m. steps p.0 s m; attempt = λ es caller event.
 start_states : States
 start_states = λ p. Registers []
 
-value_is : (event_whole example 4 start_states (ev 0) (w 3)).value ≡ Ending.Replied (Reply.Words (w 7))
-unfolding example start_states steps answers frame_steps recalls w ev hd
-value_is = refl
-
-turns_are : length (event_whole example 4 start_states (ev 0) (w 3)).world.turns ≡ 6
-unfolding example start_states steps answers frame_steps recalls w ev hd
-turns_are = refl
-
-entries_are : (event_whole example 4 start_states (ev 0) (w 3)).world.entries ≡
+-- what it comes to, and with one turn alone
+comes_to : ((event_whole example 4 start_states (ev 0) (w 3)).value ≡ Ending.Replied (Reply.Words (w 7)))
+    × (length (event_whole example 4 start_states (ev 0) (w 3)).world.turns ≡ 6)
+    × ((event_whole example 4 start_states (ev 0) (w 3)).world.entries ≡
     Entry.Accepted 1 0 (hd 0) (w 3) ∷ Entry.Accepted 2 1 (hd 1) (w 3) ∷ Entry.Accepted 3 1 (hd 1) (w 3) ∷ Entry.Finished 2 (w 5) ∷ Entry.Finished 3 (w 5)
-    ∷ Entry.Waiting 1 (ev 2) (w 9) ∷ Entry.Finished 1 (w 7) ∷ Entry.Accepted 4 1 (hd 2) (w 9) ∷ Entry.Finished 4 (w 5) ∷ []
+    ∷ Entry.Waiting 1 (ev 2) (w 9) ∷ Entry.Finished 1 (w 7) ∷ Entry.Accepted 4 1 (hd 2) (w 9) ∷ Entry.Finished 4 (w 5) ∷ [])
+    × ((event_whole example 4 start_states (ev 0) (w 3)).world.states 1 ≡ Registers (3 ∷ 3 ∷ []))
+    × ((event_whole example 1 start_states (ev 0) (w 3)).value ≡ Ending.Cut)
 unfolding example start_states steps answers frame_steps recalls w ev hd
-entries_are = refl
-
-state_is : (event_whole example 4 start_states (ev 0) (w 3)).world.states 1 ≡ Registers (3 ∷ 3 ∷ [])
-unfolding example start_states steps answers frame_steps recalls w ev hd
-state_is = refl
-
-cut_is : (event_whole example 1 start_states (ev 0) (w 3)).value ≡ Ending.Cut
-unfolding example start_states steps answers frame_steps recalls w ev hd
-cut_is = refl
+comes_to = (refl, refl, refl, refl, refl)

@@ -6,14 +6,13 @@ use Rattle.std.proofs.lemmas.List.Elements.{All-append, All-get_or, All-head, Al
 use Rattle.std.proofs.lemmas.Bool.{cases_eq, cases_lt}
 use Rattle.std.proofs.lemmas.List.Quantifiers.{all_pairs_push}
 use Rattle.samoa_model.specs.declared.record.Step.{Step}
-use Rattle.samoa_model.specs.Allowed.{weight}
 use Rattle.samoa_invariant.specs.Play.{Play}
 use Rattle.samoa_invariant.specs.State.{CanRelease, Core, release}
 use Rattle.samoa_invariant.specs.Runs.{IsDue, IsRun, Trace, play, state, with_step}
 use Rattle.samoa_invariant.specs.Settling.{AreDue, EndsAll, EndsBefore, EndsFirst, IsEnd, IsEndBefore, IsRelease, IsReleaseBefore, IsReleaseOf, ReleasesAll, ReleasesBefore, ReleasesFirst, ReleasesOf, with_steps}
 use Rattle.samoa_invariant.proofs.representation.Due.{due-after, due-append, pairs-append, run-with_steps, with-both, with-more, with-none}
-use Rattle.samoa_invariant.proofs.settling.Releasing.{end_ends, ended_releases, release_opens, turns_same}
-use Rattle.samoa_invariant.proofs.preservation.Slots.{put_at-here, turn_declares}
+use Rattle.samoa_invariant.proofs.settling.Releasing.{end_ends, ended_releases, release_opens}
+use Rattle.samoa_invariant.proofs.preservation.Slots.{put_at-here}
 use Rattle.samoa_invariant.proofs.representation.Traces.{invariant, is_run-with_step}
 
 -- a release lets only a later computation's become due, at the same microprotocol of the same node
