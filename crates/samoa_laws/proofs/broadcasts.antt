@@ -16,4 +16,3 @@ pub mod Deliveries
 pub mod Submitted
 pub mod Agree
 mod BoxExample
-mod TraceExample

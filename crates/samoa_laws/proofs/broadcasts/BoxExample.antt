@@ -60,9 +60,6 @@ called = refl
 first : first_places (called_up four) ≡ first_of_keys (up_to decision 2)
 first = refl
 
-next_is_three : (left_by abcast_opening four).next ≡ 3
-next_is_three = refl
-
 by_table : {S : Type 0} (table : S → Moment → S × Outcome) (opening : S) (steps : List (BoxStep S)) (moment : Moment) (effective : Bool)
     → IsStep table opening steps (record {
       moment = moment;
@@ -139,16 +136,17 @@ comes = more (seqcast_step setup) seqcast_opening waits (Moment.Begin 1 (0 ∷ 1
 abbrev goes_on : List (BoxStep SeqcastState)
 goes_on = more (seqcast_step setup) seqcast_opening comes (Moment.Resume 1 (1 ∷ 1 ∷ []) (Reply.Words [])) true
 
-handed_both : called_up goes_on ≡ numbered gets_first
-handed_both = refl
-
-pub seqcast_history : IsSeqcast setup (told gets_first) goes_on
+-- it hands both on
+pub seqcast_history : (called_up goes_on ≡ numbered gets_first) × IsSeqcast setup (told gets_first) goes_on
 seqcast_history = (
-  by_table (seqcast_step setup) seqcast_opening comes (Moment.Resume 1 (1 ∷ 1 ∷ []) (Reply.Words [])) true,
-  (λ e f. (message 7, inl refl)),
+  refl,
   (
-    by_table (seqcast_step setup) seqcast_opening waits (Moment.Begin 1 (0 ∷ 1 ∷ 1 ∷ 0 ∷ 1 ∷ 7 ∷ 0 ∷ 7 ∷ [])) true,
-    (λ e f. inl refl),
-    (by_table (seqcast_step setup) seqcast_opening [] (Moment.Begin 1 (0 ∷ 1 ∷ 2 ∷ 0 ∷ 1 ∷ 8 ∷ 0 ∷ 8 ∷ [])) true, (λ e f. inr (inl refl)), tt),
+    by_table (seqcast_step setup) seqcast_opening comes (Moment.Resume 1 (1 ∷ 1 ∷ []) (Reply.Words [])) true,
+    (λ e f. (message 7, inl refl)),
+    (
+      by_table (seqcast_step setup) seqcast_opening waits (Moment.Begin 1 (0 ∷ 1 ∷ 1 ∷ 0 ∷ 1 ∷ 7 ∷ 0 ∷ 7 ∷ [])) true,
+      (λ e f. inl refl),
+      (by_table (seqcast_step setup) seqcast_opening [] (Moment.Begin 1 (0 ∷ 1 ∷ 2 ∷ 0 ∷ 1 ∷ 8 ∷ 0 ∷ 8 ∷ [])) true, (λ e f. inr (inl refl)), tt),
+    ),
   ),
 )

@@ -1,10 +1,9 @@
 -- Sets of keys and maps from numbers, as the tables change them.
-use Rattle.std.proofs.Common.{◌≡◌, ◌⊎◌, inl, inr, ℕ, zero, suc, ◌+◌, ◌<◌, ◌≤◌, Bool, true, false, ◌||◌, cond, nat_le, List, [], ◌∷◌, ◌++◌, length, refl, sym, ap, ◌∙◌, arith, ◌==◌, if◌then◌else◌, eqb-true, eq-eqb, Option, Some, None, is_some, nat_cmp, Ordering, Less, Equal, Greater}
+use Rattle.std.proofs.Common.{◌≡◌, ◌⊎◌, inl, inr, ℕ, zero, suc, ◌+◌, ◌<◌, ◌≤◌, Bool, true, false, ◌||◌, cond, List, [], ◌∷◌, ◌++◌, length, refl, sym, ap, ◌∙◌, arith, ◌==◌, if◌then◌else◌, eqb-true, eq-eqb, Option, Some, None, is_some, nat_cmp, Ordering, Less, Equal, Greater}
 use Rattle.std.specs.Map.{lookup}
 use Rattle.std.specs.Ordering.{is_eq, match_ordering}
 use Rattle.std.specs.BTreeMap.{insert_entry}
 use Rattle.std.proofs.lemmas.Bool.Decides.{nat_tests}
-use Rattle.std.proofs.lemmas.Grind.{common_steps}
 use Rattle.samoa_serial.specs.contracts.keys.KeyOrd.TheImpl.{ghosts as keyed}
 use Rattle.samoa_serial.specs.Rows.{same_key, has_key, with_key, message_of, with_message}
 use Rattle.samoa_serial.specs.declared.keys.Key.{Key}
@@ -12,6 +11,7 @@ use Rattle.samoa_serial.specs.declared.message.Message.{Message}
 use Rattle.samoa_laws.proofs.lists.Messages.{same_key_equal}
 use Rattle.samoa_laws.specs.lists.Lists.{In}
 use Rattle.samoa_laws.proofs.lists.Lists.{some_same}
+use Rattle.samoa_serial.proofs.DrainLaws.{from_on, from_on_le-length, fewer}
 
 -- ---- sets of keys
 keyed_is : (a b : Key) → is_eq (keyed.cmp a b) ≡ same_key b a
@@ -165,23 +165,6 @@ with_message_is es i m = go (message_of es i) refl
     go None e = record { stays = stays e; new = new; few = length-insert es i m }
 
 -- ---- numbers that are all there
--- how many are there from a number on
-abbrev from_on : List (ℕ × Message) → ℕ → ℕ
-from_on [] next = 0
-from_on (e ∷ es) next = (if nat_le next e.0 then 1 else 0) + from_on es next
-
-from_on_le-length : (es : List (ℕ × Message)) (next : ℕ) → from_on es next ≤ length es
-from_on_le-length [] next = omega arith
-from_on_le-length (e ∷ es) next = grind (arith, common_steps, from_on_le-length es next)
-
-from_on_later : (es : List (ℕ × Message)) (next : ℕ) → from_on es (next + 1) ≤ from_on es next
-from_on_later [] next = omega arith
-from_on_later (e ∷ es) next = grind (arith, common_steps, from_on_later es next)
-
-fewer : (es : List (ℕ × Message)) (next : ℕ) (m : Message) → message_of es next ≡ Some m → from_on es (next + 1) < from_on es next
-fewer [] next m h = cc
-fewer (e ∷ es) next m h = grind (arith, common_steps, fewer es next m, from_on_later es next)
-
 -- a message stands at the number
 abbrev pub IsThere : List (ℕ × Message) → ℕ → Type 0
 IsThere es i = (m : Message) × (message_of es i ≡ Some m)

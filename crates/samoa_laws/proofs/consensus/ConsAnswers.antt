@@ -19,7 +19,7 @@ words_told setup to tag b ts m = to ∷ V setup 0 ∷ tag ∷ b.instance ∷ b.r
 pub letter_read : (setup : Setup) (s : ConsState) (moment : Moment) (node : ℕ) (arg frame : List ℕ) → (port_at setup 0 ≡ port_at setup 1 → ⊥) → (port_at setup 0 ≡ port_at setup 2 → ⊥)
     → (cons_step setup s moment).1 ≡ Outcome.Call (port_at setup 0) arg frame → letter_by node (cons_step setup s moment).1 ≡ Some (letter_at (node ∷ drop 2 arg))
 letter_read setup s moment node arg frame first second h =
-    ap (letter_by node) h ∙ go (subst (ConsSays setup) h (cons-says setup s moment).shape)
+    ap (letter_by node) h ∙ go (subst (ConsSays setup) h (cons-says setup s moment).holds)
   where
     go : ConsSays setup (Outcome.Call (port_at setup 0) arg frame) → letter_by node (Outcome.Call (port_at setup 0) arg frame) ≡ Some (letter_at (node ∷ drop 2 arg))
     go (ConsNothing d) = absurd d
@@ -32,7 +32,7 @@ letter_read setup s moment node arg frame first second h =
 pub announced_read : (setup : Setup) (s : ConsState) (moment : Moment) (arg frame : List ℕ) → (port_at setup 1 ≡ port_at setup 0 → ⊥) → (port_at setup 1 ≡ port_at setup 2 → ⊥)
     → (cons_step setup s moment).1 ≡ Outcome.Call (port_at setup 1) arg frame → announced_by (cons_step setup s moment).1 ≡ Some (word arg 1, message_at arg 2)
 announced_read setup s moment arg frame first second h =
-    ap announced_by h ∙ go (subst (ConsSays setup) h (cons-says setup s moment).shape)
+    ap announced_by h ∙ go (subst (ConsSays setup) h (cons-says setup s moment).holds)
   where
     go : ConsSays setup (Outcome.Call (port_at setup 1) arg frame) → announced_by (Outcome.Call (port_at setup 1) arg frame) ≡ Some (word arg 1, message_at arg 2)
     go (ConsNothing d) = absurd d
@@ -44,7 +44,7 @@ announced_read setup s moment arg frame first second h =
 pub decided_read : (setup : Setup) (s : ConsState) (moment : Moment) (arg frame : List ℕ) → (port_at setup 2 ≡ port_at setup 0 → ⊥) → (port_at setup 2 ≡ port_at setup 1 → ⊥)
     → (cons_step setup s moment).1 ≡ Outcome.Call (port_at setup 2) arg frame → decided_by (cons_step setup s moment).1 ≡ Some (word arg 0, message_at arg 1)
 decided_read setup s moment arg frame first second h =
-    ap decided_by h ∙ go (subst (ConsSays setup) h (cons-says setup s moment).shape)
+    ap decided_by h ∙ go (subst (ConsSays setup) h (cons-says setup s moment).holds)
   where
     go : ConsSays setup (Outcome.Call (port_at setup 2) arg frame) → decided_by (Outcome.Call (port_at setup 2) arg frame) ≡ Some (word arg 0, message_at arg 1)
     go (ConsNothing d) = absurd d

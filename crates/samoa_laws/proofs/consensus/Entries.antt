@@ -1,6 +1,6 @@
 -- Maps by instance and by ballot.
 use Rattle.std.proofs.Common.{◌≡◌, ◌⊎◌, inl, inr, ℕ, ◌<◌, Bool, true, false, ◌||◌, ◌&&◌, eqb, List, [], ◌∷◌, map, refl, sym, ap, ◌∙◌, subst, arith, Option, Some, cond, ◌==◌, if◌then◌else◌, eqb-true, eq-eqb, nat_cmp, Ordering, Less, Equal, Greater}
-use Rattle.std.specs.Prelude.{⊤, find, unwrap_or}
+use Rattle.std.specs.Prelude.{find, unwrap_or}
 use Rattle.std.specs.List.{list_any}
 use Rattle.std.specs.Map.{lookup}
 use Rattle.std.specs.Ordering.{is_eq, match_ordering}
@@ -13,7 +13,8 @@ use Rattle.samoa_serial.specs.declared.keys.Ballot.{Ballot}
 use Rattle.samoa_serial.specs.declared.message.Instance.{Instance}
 use Rattle.samoa_laws.specs.lists.Lists.{In}
 use Rattle.samoa_laws.proofs.broadcasts.Maps.{Agrees, lookup_insert, numbers_agree}
-use Rattle.samoa_laws.proofs.lists.Lists.{and_true}
+use Rattle.samoa_serial.proofs.Instances.{IsRising}
+use Rattle.std.proofs.lemmas.Bool.{and_parts}
 
 -- ---- ballots
 abbrev pub same_ballot : Ballot → Ballot → Bool
@@ -24,7 +25,7 @@ tied_ballots a b = grind (arith, nat_tests)
 
 pub equal_ballots : (a b : Ballot) → same_ballot a b ≡ true → a ≡ b
 equal_ballots a b t =
-    let both = and_true (eqb a.instance b.instance) (eqb a.round b.round) t in
+    let both = and_parts (eqb a.instance b.instance) (eqb a.round b.round) t in
     let instance : a.instance ≡ b.instance = eqb-true a.instance b.instance both.0 in
     let round : a.round ≡ b.round = eqb-true a.round b.round both.1 in
     λ k. record { instance = instance k; round = round k }
@@ -62,11 +63,7 @@ round_put es b r =
     ap (λ (o : Option Round). unwrap_or o empty_round) (lookup_insert balloted.cmp same_ballot ballots_agree es b r b
     ∙ ap (λ (t : Bool). if t then Some r else lookup (λ k. is_eq (balloted.cmp b k)) es) (same_ballot_self b))
 
--- ---- entries in order: each is what its number finds
-abbrev pub IsRising : List (ℕ × Instance) → Type 0
-IsRising [] = ⊤
-IsRising (e ∷ es) = ((x : ℕ × Instance) → In x es → e.0 < x.0) × IsRising es
-
+-- ---- entries in order
 tied_numbers : (k a : ℕ) → nat_cmp k a ≡ Equal → k ≡ a
 tied_numbers k a o = grind (arith, nat_tests)
 
@@ -114,19 +111,6 @@ rising_insert (e ∷ es) k v r = go (rising_insert es k v r.1) (nat_cmp k e.0) r
         above : (x : ℕ × Instance) → (x.0 ≡ k) ⊎ In x es → e.0 < x.0
         above x (inl f) = subst (λ (a : ℕ). e.0 < a) (sym f) (greater_numbers k e.0 o)
         above x (inr h) = r.0 x h
-
-pub rising_finds : (es : List (ℕ × Instance)) (e : ℕ × Instance) → IsRising es → In e es → instance_of es e.0 ≡ Some e.1
-rising_finds [] e r h = absurd h
-rising_finds (d ∷ es) e r (inl f) =
-    ap (λ (b : Bool). cond b (Some d.1) (instance_of es e.0)) (numbers_agree.tied e.0 d.0 ∙ eq-eqb d.0 e.0 (sym (ap (λ (y : ℕ × Instance). y.0) f)))
-    ∙ ap (λ (y : ℕ × Instance). Some y.1) (sym f)
-rising_finds (d ∷ es) e r (inr h) = later (r.0 e h) (rising_finds es e r.1 h)
-  where
-    not_here : d.0 < e.0 → is_eq (nat_cmp e.0 d.0) ≡ false
-    not_here less = grind (arith, nat_tests)
-
-    later : d.0 < e.0 → instance_of es e.0 ≡ Some e.1 → instance_of (d ∷ es) e.0 ≡ Some e.1
-    later less ih = ap (λ (b : Bool). cond b (Some d.1) (instance_of es e.0)) (not_here less) ∙ ih
 
 pub found_in : {A : Type 0} (p : A → Bool) (xs : List A) (x : A) → find p xs ≡ Some x → In x xs
 found_in p [] x e = absurd (cc)

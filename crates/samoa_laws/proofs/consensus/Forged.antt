@@ -67,6 +67,13 @@ unfolding exts forged
 arrive = (refl, (refl, tt))
 
 -- so it is no group history: its nodes would agree
-no_history : IsGroupHistory script exts → ⊥
-no_history history =
-    they_differ (decisions script exts exts [] exts [] 0 1 1 (message 5) (message 6) history (sym (append-nil exts)) (sym (append-nil exts)) at_the_first at_the_second)
+no_history : IsGroup script × (length exts ≤ 100000) × Each (IsExtOf script) exts × Each (λ (ext : Ext). ext.cause ≡ Cause.Event (event 0)) exts
+    × (IsGroupHistory script exts → ⊥)
+no_history = (
+  of_the_stack,
+  few,
+  known,
+  arrive,
+  λ history.
+      they_differ (decisions script exts exts [] exts [] 0 1 1 (message 5) (message 6) history (sym (append-nil exts)) (sym (append-nil exts)) at_the_first at_the_second),
+)

@@ -12,7 +12,7 @@ use Rattle.samoa_serial.specs.declared.message.Estimate.{Estimate}
 use Rattle.samoa_serial.specs.declared.message.Letter.{Letter}
 use Rattle.samoa_laws.specs.lists.Lists.{In}
 use Rattle.samoa_laws.proofs.consensus.Majorities.{coordinator_of}
-use Rattle.samoa_laws.proofs.consensus.Entries.{IsRising}
+use Rattle.samoa_serial.proofs.Instances.{IsRising}
 use Rattle.samoa_laws.proofs.consensus.Locked.{Put, Facts, senders, Backing, IsLocked, IsSafe}
 use Rattle.samoa_laws.proofs.lists.Lists.{some_same}
 

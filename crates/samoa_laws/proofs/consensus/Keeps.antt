@@ -13,7 +13,7 @@ use Rattle.samoa_serial.specs.declared.message.Message.{Message}
 use Rattle.samoa_serial.specs.declared.message.Instance.{Instance}
 use Rattle.samoa_serial.specs.declared.message.Estimate.{Estimate}
 use Rattle.samoa_serial.specs.declared.message.Letter.{Letter}
-use Rattle.samoa_laws.proofs.lists.Lists.{in_end, in_mapped, in_split}
+use Rattle.samoa_laws.proofs.lists.Lists.{in_end, in_mapped, in_split, some_same}
 use Rattle.samoa_laws.specs.lists.Lists.{In}
 use Rattle.samoa_serial.proofs.ListLaws.{in_left}
 use Rattle.samoa_laws.proofs.broadcasts.Maps.{HasMore, with_message_is}
@@ -21,9 +21,6 @@ use Rattle.samoa_laws.proofs.consensus.Majorities.{majority_of, coordinator_of, 
 use Rattle.samoa_laws.proofs.consensus.Locked.{senders, Backing, IsLocked}
 use Rattle.samoa_laws.proofs.consensus.Entries.{instance_case, instance_put, round_case, round_put, rising_insert, any_mapped, any_flipped}
 use Rattle.samoa_laws.proofs.consensus.Inv.{letter, IsPut, HasAcked, IsRound, facts_of, adopted_of, last_round, IsLocal, IsEstimate, Inv, put_made, Sub, more_put, more_round, more_local, Grows, grows_not, set_at, IsNew, step_keeps}
-
-some_is : {A : Type 0} (a b : A) → Some a ≡ Some b → a ≡ b
-some_is a b e = cc
 
 -- ---- more is said
 told_more : (ls : List Letter) (an : List (ℕ × Message)) (l : Letter) → Sub ls an (ls ++ l ∷ []) an
@@ -88,7 +85,7 @@ instance_local Phi ls an s i x old lags took valid ends = record {
     at : (P : ℕ → Instance → Type 0) → P i x → (j : ℕ) (y : Instance) → (instance_of s.instances j ≡ Some y → P j y)
         → instance_of (insert_entry nat_cmp s.instances i x) j ≡ Some y → P j y
     at P here j y there = instance_case (λ (o : Option Instance). o ≡ Some y → P j y) s.instances i x j
-        (λ e f. subst (λ (k : ℕ). P k y) e (subst (P i) (some_is x y f) here)) there
+        (λ e f. subst (λ (k : ℕ). P k y) e (subst (P i) (some_same (Some x) x y refl f) here)) there
 
 -- ---- a node tells an estimate: it enters an instance, or goes to its next round
 pub tell_keeps : (Phi : ℕ → Message → Type 0) (n : ℕ) (states : ℕ → ConsState) (ls : List Letter) (an ds : List (ℕ × Message)) (v : ℕ) → Inv Phi n states ls an ds → v < n
@@ -395,7 +392,7 @@ make_keeps Phi n states ls an ds v b e r inv co pos none round one many = step_k
   mine = round_local Phi ls' an s b (proposing r best.message) (more_local Phi ls ls' an an sub s (inv.locals v)) (record {
     kept = grown.kept;
     apart = grown.apart;
-    made = λ m f. subst (λ (z : Message). IsPut ls' b z) (some_is best.message m f) (v, 0, in_end ls new);
+    made = λ m f. subst (λ (z : Message). IsPut ls' b z) (some_same (Some best.message) best.message m refl f) (v, 0, in_end ls new);
     acked = grown.acked;
     ackers = grown.ackers;
   });

@@ -13,13 +13,15 @@ use Rattle.samoa_serial.specs.declared.message.Instance.{Instance}
 use Rattle.samoa_serial.specs.declared.message.Estimate.{Estimate}
 use Rattle.samoa_serial.specs.declared.message.Letter.{Letter}
 use Rattle.samoa_model.specs.declared.setup.Setup.{Setup}
-use Rattle.samoa_laws.proofs.lists.Lists.{and_true, in_end, or_false_both}
+use Rattle.samoa_laws.proofs.lists.Lists.{in_end, or_false_both}
 use Rattle.samoa_laws.specs.lists.Lists.{In}
 use Rattle.samoa_laws.specs.trace.Boxes.{noted}
 use Rattle.samoa_laws.specs.consensus.Consensus.{letter_by, announced_by, decided_by}
-use Rattle.samoa_laws.proofs.consensus.Entries.{found_in, rising_finds}
+use Rattle.samoa_laws.proofs.consensus.Entries.{found_in}
+use Rattle.samoa_serial.proofs.Instances.{rising_finds}
 use Rattle.samoa_laws.proofs.consensus.Inv.{letter, IsPut, HasAcked, IsRound, adopted_of, last_round, IsLocal, Inv, set_at}
 use Rattle.samoa_laws.proofs.consensus.Keeps.{still_keeps, tell_keeps, adopt_keeps, estimate_round, acknowledged_round, round_keeps, make_keeps, announce_keeps, decide_keeps}
+use Rattle.std.proofs.lemmas.Bool.{and_parts}
 
 -- after a step of the box that is set up so, of which r is the result
 abbrev pub After : (ℕ → Message → Type 0) → Setup → (ℕ → ConsState) → List Letter → List (ℕ × Message) → List (ℕ × Message) → ConsState × Outcome → Type 0
@@ -152,7 +154,7 @@ record Coordinates (setup : Setup) (b : Ballot) : Type 0 where
 
 coordinates_it : (setup : Setup) (b : Ballot) → not (coordinates setup b) ≡ false → Coordinates setup b
 coordinates_it setup b t =
-    let both = and_true (not (b.round == 0)) (coordinator setup b.round == me setup) (not_false (coordinates setup b) t) in
+    let both = and_parts (not (b.round == 0)) (coordinator setup b.round == me setup) (not_false (coordinates setup b) t) in
     record { positive = positive b.round (not_true (b.round == 0) both.0); is_me = eqb-true (coordinator setup b.round) (me setup) both.1 }
 
 row_estimated : (Phi : ℕ → Message → Type 0) (setup : Setup) (states : ℕ → ConsState) (ls : List Letter) (an ds : List (ℕ × Message)) → Inv Phi setup.nodes states ls an ds
@@ -181,7 +183,7 @@ row_estimated Phi setup states ls an ds inv b e told =
         after_round Phi setup states ls an ds b (is_to_propose setup r)
         (record r { proposal = Some (best_of e r.estimates).message }, tell setup setup.nodes 2 b 0 (best_of e r.estimates).message [])
         (r, done [])
-        (λ u. let both = and_true (nat_le (majority setup) (length r.estimates)) (not (is_some r.proposal)) u in
+        (λ u. let both = and_parts (nat_le (majority setup) (length r.estimates)) (not (is_some r.proposal)) u in
         make_keeps Phi setup.nodes states ls an ds (me setup) b e r inv mine.is_me mine.positive (not_some r.proposal both.1) round (in_end old.estimates e)
         (at_least (majority setup) (length r.estimates) both.0))
         (λ u. round_keeps Phi setup.nodes states ls an ds (me setup) b r inv (λ m f. f) round)
@@ -206,7 +208,7 @@ row_acknowledged Phi setup states ls an ds inv b sender told =
     announced mine r f (Some m) g =
         after_round Phi setup states ls an ds b (is_to_announce setup new) (record new { announced = true }, call setup 1 (1 ∷ b.instance ∷ message_words m) []) (new, done [])
         (λ u. announce_keeps Phi setup.nodes states ls an ds (me setup) b m new inv mine.positive stays g round
-        (at_least (majority setup) (length new.acknowledged) (and_true (nat_le (majority setup) (length new.acknowledged)) (not new.announced) u).0))
+        (at_least (majority setup) (length new.acknowledged) (and_parts (nat_le (majority setup) (length new.acknowledged)) (not new.announced) u).0))
         (λ u. round_keeps Phi setup.nodes states ls an ds (me setup) b new inv stays round)
       where
         new : Round

@@ -1,5 +1,5 @@
 -- Lists: what stands in them, which begin one another, first places, and what stands apart.
-use Rattle.std.proofs.Common.{Some, Option, ◌&&◌, Bool, true, false, not, cond, ◌||◌, ◌≡◌, ◌⊎◌, inl, inr, List, [], ◌∷◌, ◌++◌, map, refl, sym, ap, ◌∙◌, filter, if◌then◌else◌, append_assoc, append-nil, true≢false}
+use Rattle.std.proofs.Common.{Some, Option, Bool, true, false, not, cond, ◌||◌, ◌≡◌, ◌⊎◌, inl, inr, List, [], ◌∷◌, ◌++◌, map, refl, sym, ap, ◌∙◌, filter, if◌then◌else◌, append_assoc, append-nil, true≢false}
 use Rattle.std.specs.List.{list_any}
 use Rattle.std.proofs.lemmas.Bool.{cond_both, or_left, or_right, false≢true}
 use Rattle.std.proofs.lemmas.List.{map-append}
@@ -29,10 +29,6 @@ or_swap false true true = refl
 or_swap false true false = refl
 or_swap false false true = refl
 or_swap false false false = refl
-
-pub and_true : (a b : Bool) → (a && b) ≡ true → (a ≡ true) × (b ≡ true)
-and_true true b e = (refl, e)
-and_true false b e = absurd (cc)
 
 pub or_false_both : (a b : Bool) → (a || b) ≡ false → (a ≡ false) × (b ≡ false)
 or_false_both true b e = absurd (cc)

@@ -9,7 +9,8 @@ use Rattle.samoa_serial.proofs.ListLaws.{begins-append, begins-refl, begins-tran
 use Rattle.samoa_laws.specs.lists.Lists.{In, Begins, Comparable, unknown}
 use Rattle.samoa_laws.specs.lists.Messages.{alike_keys, same_message, first_places, first_of_keys}
 use Rattle.samoa_laws.specs.broadcasts.Abcast.{listed, up_to}
-use Rattle.samoa_laws.proofs.lists.Lists.{and_true, any_append, any_in, closed_unknown, firsts_in, firsts_new, firsts_old, in_any, in_firsts, or_none, begins_firsts}
+use Rattle.samoa_laws.proofs.lists.Lists.{any_append, any_in, closed_unknown, firsts_in, firsts_new, firsts_old, in_any, in_firsts, or_none, begins_firsts}
+use Rattle.std.proofs.lemmas.Bool.{and_parts}
 
 -- ---- tests of messages
 same_number : (a : ℕ) → eqb a a ≡ true
@@ -20,8 +21,8 @@ same_key_self k = rw (same_number k.epoch, same_number k.origin, same_number k.n
 
 pub same_key_equal : (a b : Key) → same_key a b ≡ true → a ≡ b
 same_key_equal a b t =
-    let first = and_true (eqb a.epoch b.epoch && eqb a.origin b.origin) (eqb a.number b.number) t in
-    let second = and_true (eqb a.epoch b.epoch) (eqb a.origin b.origin) first.0 in
+    let first = and_parts (eqb a.epoch b.epoch && eqb a.origin b.origin) (eqb a.number b.number) t in
+    let second = and_parts (eqb a.epoch b.epoch) (eqb a.origin b.origin) first.0 in
     let epoch : a.epoch ≡ b.epoch = eqb-true a.epoch b.epoch second.0 in
     let origin : a.origin ≡ b.origin = eqb-true a.origin b.origin second.1 in
     let number : a.number ≡ b.number = eqb-true a.number b.number first.1 in
@@ -32,8 +33,8 @@ same_message_self m = rw (same_key_self (message_key m), same_number m.kind, sam
 
 pub same_message_equal : (a b : Message) → same_message a b ≡ true → a ≡ b
 same_message_equal a b t =
-    let first = and_true (same_key (message_key a) (message_key b) && eqb a.kind b.kind) (eqb a.value b.value) t in
-    let second = and_true (same_key (message_key a) (message_key b)) (eqb a.kind b.kind) first.0 in
+    let first = and_parts (same_key (message_key a) (message_key b) && eqb a.kind b.kind) (eqb a.value b.value) t in
+    let second = and_parts (same_key (message_key a) (message_key b)) (eqb a.kind b.kind) first.0 in
     let key : message_key a ≡ message_key b = same_key_equal (message_key a) (message_key b) second.0 in
     let kind : a.kind ≡ b.kind = eqb-true a.kind b.kind second.1 in
     let value : a.value ≡ b.value = eqb-true a.value b.value first.1 in

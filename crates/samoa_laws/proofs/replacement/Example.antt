@@ -13,8 +13,6 @@ use Rattle.samoa_laws.specs.lists.Messages.{first_places}
 use Rattle.samoa_serial.specs.Lists.{In}
 use Rattle.samoa_serial.specs.ReplTable.{repl_step}
 use Rattle.samoa_laws.specs.replacement.History.{Step, left_by, MayCome, Follows, IsHistory, GoesOn, begun, marks, stream, asked}
-use Rattle.samoa_laws.specs.replacement.Trace.{Item, box_of, ResumesFrom, awaited, ComesAtOnce, IsTrace}
-use Rattle.std.proofs.lemmas.Bool.{false≢true}
 use Rattle.samoa_laws.specs.replacement.Group.{Up, messages_of, called_by, IsGroup, IsOrdered}
 use Rattle.samoa_laws.proofs.replacement.Groups.{streams_comparable}
 
@@ -68,26 +66,16 @@ node_0 = run (setup 0) one
 abbrev node_1 : List Step
 node_1 = run (setup 1) two
 
-marks_0 : marks node_0 ≡ first ∷ second ∷ []
-marks_0 = refl
+marked : (marks node_0 ≡ first ∷ second ∷ []) × (marks node_1 ≡ first ∷ second ∷ third ∷ [])
+marked = (refl, refl)
 
-marks_1 : marks node_1 ≡ first ∷ second ∷ third ∷ []
-marks_1 = refl
+began : (begun node_0 ≡ first ∷ first ∷ second ∷ []) × (begun node_1 ≡ third ∷ first ∷ second ∷ [])
+began = (refl, refl)
 
-begun_0 : begun node_0 ≡ first ∷ first ∷ second ∷ []
-begun_0 = refl
-
-begun_1 : begun node_1 ≡ third ∷ first ∷ second ∷ []
-begun_1 = refl
-
-stream_0 : stream node_0 ≡ (0 ∷ 1 ∷ 0 ∷ 70 ∷ []) ∷ []
-stream_0 = refl
-
-stream_1 : stream node_1 ≡ (0 ∷ 1 ∷ 0 ∷ 70 ∷ []) ∷ (0 ∷ 2 ∷ 0 ∷ 71 ∷ []) ∷ []
-stream_1 = refl
-
-asked_0 : asked node_0 ≡ (record { 0 = 5 }, 1 ∷ []) ∷ []
-asked_0 = refl
+-- what each delivered, and what node 0 asked for
+delivered : (stream node_0 ≡ (0 ∷ 1 ∷ 0 ∷ 70 ∷ []) ∷ []) × (stream node_1 ≡ (0 ∷ 1 ∷ 0 ∷ 70 ∷ []) ∷ (0 ∷ 2 ∷ 0 ∷ 71 ∷ []) ∷ [])
+    × (asked node_0 ≡ (record { 0 = 5 }, 1 ∷ []) ∷ [])
+delivered = (refl, refl, refl)
 
 follows : (s : Setup) (earlier : List Step) (t : Turn) → MayCome earlier t.moment → Follows s earlier (step_from s earlier t)
 follows s earlier t c = record { old = refl; new = refl; outcome = refl; comes = c }
@@ -218,63 +206,3 @@ ordered = record {
 
 one_begins_other : Comparable (stream node_0) (stream node_1)
 one_begins_other = streams_comparable 1 setups steps ups protocol group ordered 0 1 on_0 on_1 refl refl
-
--- ---- node 0 within a trace, in which another box has a step between
-abbrev item : Bool → ℕ → Step → Item
-item here call step = record { here = here; computation = 0; call = call; step = step }
-
-abbrev first_cut : List Step
-first_cut = run (setup 0) (record (comes first) { effective = false } ∷ [])
-
-abbrev step_1 : Step
-step_1 = step_from (setup 0) first_cut (comes first)
-
-abbrev step_2 : Step
-step_2 = step_from (setup 0) (step_1 ∷ first_cut) (goes_on 0)
-
-abbrev items_0 : List Item
-items_0 = item true 0 (step_from (setup 0) [] (record (comes first) { effective = false })) ∷ []
-
-abbrev items_1 : List Item
-items_1 = item true 1 step_1 ∷ items_0
-
-abbrev items_2 : List Item
-items_2 = item false 7 step_1 ∷ item true 1 step_2 ∷ items_1
-
-box_2 : box_of items_2 ≡ step_2 ∷ step_1 ∷ first_cut
-box_2 = refl
-
-rests_2 : awaited items_2 ≡ None
-rests_2 = refl
-
-trace_2 : IsTrace (setup 0) items_2
-trace_2 = (
-  (λ e. absurd (false≢true e)),
-  (λ frame e. absurd (cc)),
-  (
-    (λ e. record { old = refl; new = refl; outcome = refl; caused = resumes_1 }),
-    at_once,
-    (
-      (λ e. record { old = refl; new = refl; outcome = refl; caused = tt }),
-      (λ frame e. absurd (cc)),
-      ((λ e. record { old = refl; new = refl; outcome = refl; caused = tt }), tt, tt),
-    ),
-  ),
-)
-  where
-    resumes_1 : ResumesFrom items_1 (item true 1 step_2) 1 (0 ∷ [])
-    resumes_1 = record {
-      between = [];
-      from = item true 1 step_1;
-      before = items_0;
-      is = refl;
-      here = refl;
-      same = record { computation = refl; call = refl };
-      of = refl;
-      carries = refl;
-      effective = refl;
-      last = λ j h. absurd h;
-    }
-
-    at_once : (frame : List ℕ) → awaited items_1 ≡ Some frame → ComesAtOnce (item true 1 step_1) (item true 1 step_2) frame
-    at_once frame e = record { here = refl; same = record { computation = refl; call = refl }; reply = (resumes 0 frame e).0; resumes = (resumes 0 frame e).1 }

@@ -19,7 +19,8 @@ use Rattle.samoa_serial.specs.State.{AbcastState, ConsState, OfAbcast, OfCons, O
 use Rattle.samoa_serial.specs.Lists.{In}
 use Rattle.samoa_laws.specs.trace.Causes.{frame_of}
 use Rattle.samoa_laws.specs.trace.Group.{handler}
-use Rattle.samoa_laws.proofs.trace.Shapes.{Asks, AtPort, Casts, Hands, HandsUp, IsDone, IsQuiet, LinkShape, Quiet, RbShape, Relays, Rests, Row, Sends, Silent, either, link-step, rbcast-step}
+use Rattle.samoa_laws.proofs.trace.Shapes.{Asks, AtPort, Casts, Hands, HandsUp, IsDone, IsQuiet, LinkShape, Quiet, RbShape, Relays, Rests, Sends, Silent, link-step, rbcast-step}
+use Rattle.samoa_serial.proofs.RowLaws.{Row, either}
 use Rattle.samoa_laws.proofs.trace.Worlds.{group_micro, group_setup}
 use Rattle.samoa_laws.specs.replacement.Casts.{handler_of}
 use Rattle.samoa_laws.proofs.streams.Listed.{IsListed}
@@ -87,11 +88,11 @@ Only setup port o = Asks setup (port ∷ []) o
 
 propose_row : (setup : Setup) (s : ConsState) (i : ℕ) (m : Message) → Row (Only setup 0) (co.cons_propose setup s i m)
 propose_row setup s i m =
-    either (Only setup 0) (is_some (co.instance_of s.instances i)) (record { shape = Quiet tt }) (record { shape = AtPort 0 (inl refl) _ _ refl })
+    either (Only setup 0) (is_some (co.instance_of s.instances i)) (record { holds = Quiet tt }) (record { holds = AtPort 0 (inl refl) _ _ refl })
 
 propose_only : (setup : Setup) (s : ConsState) (m : Moment) → handler_of m ≡ 0 → Only setup 0 (co.cons_step setup s m).1
 propose_only setup s (Moment.Begin i arg) is =
-    subst (λ (n : ℕ). Only setup 0 (co.cons_step setup s (Moment.Begin n arg)).1) (sym is) (propose_row setup s (word arg 0) (message_at arg 1)).shape
+    subst (λ (n : ℕ). Only setup 0 (co.cons_step setup s (Moment.Begin n arg)).1) (sym is) (propose_row setup s (word arg 0) (message_at arg 1)).holds
 propose_only setup s (Moment.Resume i frame reply) is = subst (λ (n : ℕ). Only setup 0 (co.cons_step setup s (Moment.Resume n frame reply)).1) (sym is) (Quiet tt)
 
 ignore_only : (setup : Setup) (s : ConsState) (m : Moment) → handler_of m ≡ 2 → ((arg : List ℕ) → m ≡ Moment.Begin 2 arg → word arg 2 ≢ 1) → IsDone (co.cons_step setup s m).1
@@ -104,8 +105,8 @@ ignore_only setup s (Moment.Begin i arg) is ne =
 ignore_only setup s (Moment.Resume i frame reply) is ne = subst (λ (n : ℕ). IsDone (co.cons_step setup s (Moment.Resume n frame reply)).1) (sym is) tt
 
 offer_row : (setup : Setup) (s : AbcastState) (pending : List Message) → Row (Only setup 1) (ab.abcast_offer setup s pending)
-offer_row setup s [] = record { shape = Quiet tt }
-offer_row setup s (x ∷ xs) = either (Only setup 1) (nat_lt s.proposed s.next) (record { shape = AtPort 1 (inl refl) _ _ refl }) (record { shape = Quiet tt })
+offer_row setup s [] = record { holds = Quiet tt }
+offer_row setup s (x ∷ xs) = either (Only setup 1) (nat_lt s.proposed s.next) (record { holds = AtPort 1 (inl refl) _ _ refl }) (record { holds = Quiet tt })
 
 heard_row : (setup : Setup) (s : AbcastState) (m : Message) → Row (Only setup 1) (ab.abcast_heard setup s m)
 heard_row setup s m =
@@ -113,10 +114,10 @@ heard_row setup s m =
     offer_row setup (record s { pending = pending }) pending
 
 hear_row : (setup : Setup) (s : AbcastState) (arg : List ℕ) → Row (Only setup 1) (ab.abcast_step setup s (Moment.Begin 1 arg))
-hear_row setup s arg = either (Only setup 1) (word arg 2 == 0) (heard_row setup s (message_at arg 3)) (record { shape = Quiet tt })
+hear_row setup s arg = either (Only setup 1) (word arg 2 == 0) (heard_row setup s (message_at arg 3)) (record { holds = Quiet tt })
 
 hear_only : (setup : Setup) (s : AbcastState) (m : Moment) → handler_of m ≡ 1 → Only setup 1 (ab.abcast_step setup s m).1
-hear_only setup s (Moment.Begin i arg) is = subst (λ (n : ℕ). Only setup 1 (ab.abcast_step setup s (Moment.Begin n arg)).1) (sym is) (hear_row setup s arg).shape
+hear_only setup s (Moment.Begin i arg) is = subst (λ (n : ℕ). Only setup 1 (ab.abcast_step setup s (Moment.Begin n arg)).1) (sym is) (hear_row setup s arg).holds
 hear_only setup s (Moment.Resume i frame reply) is = subst (λ (n : ℕ). Only setup 1 (ab.abcast_step setup s (Moment.Resume n frame reply)).1) (sym is) (Quiet tt)
 
 -- abcast's cast: what it casts begins with 0

@@ -99,17 +99,11 @@ exts =
 abbrev turned : Message
 turned = record { epoch = 0; origin = 0; number = 1; kind = 1; value = 0 }
 
-decides : decided_at script exts 0 1 ≡ Some turned
-decides = refl
+decides : (decided_at script exts 0 1 ≡ Some turned) × (decided_at script exts 1 1 ≡ Some turned)
+decides = (refl, refl)
 
-other_decides : decided_at script exts 1 1 ≡ Some turned
-other_decides = refl
-
-delivers : stream_at script exts 0 ≡ (1 ∷ 1 ∷ 0 ∷ 5 ∷ []) ∷ (0 ∷ 2 ∷ 0 ∷ 6 ∷ []) ∷ []
-delivers = refl
-
-other_delivers : stream_at script exts 1 ≡ (1 ∷ 1 ∷ 0 ∷ 5 ∷ []) ∷ []
-other_delivers = refl
+delivers : (stream_at script exts 0 ≡ (1 ∷ 1 ∷ 0 ∷ 5 ∷ []) ∷ (0 ∷ 2 ∷ 0 ∷ 6 ∷ []) ∷ []) × (stream_at script exts 1 ≡ (1 ∷ 1 ∷ 0 ∷ 5 ∷ []) ∷ [])
+delivers = (refl, refl)
 
 -- ---- it is a group history
 got_in : {A : Type 0} (xs : List A) (i : ℕ) (x : A) → slice_get xs i ≡ Some x → In x xs

@@ -17,7 +17,8 @@ use Rattle.samoa_serial.specs.ViewsTable as vi
 use Rattle.samoa_serial.specs.declared.message.Message.{Message}
 use Rattle.samoa_serial.specs.declared.message.Watch.{Watch}
 use Rattle.samoa_serial.specs.Lists.{Each}
-use Rattle.samoa_laws.proofs.trace.Shapes.{AbCasts, AbHandsOn, AbNothing, AbProposes, AbSays, Casts, ConsAnnounces, ConsDecides, ConsNothing, ConsSays, ConsTells, HandsUp, IsDone, RbShape, Relays, Rests, Row, abcast-step, cons-step, either, either_outcome, rbcast-step}
+use Rattle.samoa_laws.proofs.trace.Shapes.{AbCasts, AbHandsOn, AbNothing, AbProposes, AbSays, Casts, ConsAnnounces, ConsDecides, ConsNothing, ConsSays, ConsTells, HandsUp, IsDone, RbShape, Relays, Rests, abcast-step, cons-step, rbcast-step}
+use Rattle.samoa_serial.proofs.RowLaws.{Row, either, either_outcome}
 use Rattle.samoa_laws.proofs.trace.Worlds.{group_micro, group_setup, setup_from}
 
 -- ---- changes are asked for by the replacement layer alone
@@ -27,41 +28,41 @@ NoChange _ = ⊤
 
 link_row : (setup : Setup) (s : LinkState) (m : Moment) → Row NoChange (li.link_step setup s m)
 link_row setup s (Moment.Begin handler arg) =
-    either NoChange (handler == 0) (record { shape = tt })
-    (either NoChange (handler == 1) (record { shape = either_outcome NoChange (nat_lt (word arg 1 + 1) (length setup.ports)) tt tt }) (record { shape = tt }))
-link_row setup s (Moment.Resume handler frame reply) = record { shape = tt }
+    either NoChange (handler == 0) (record { holds = tt })
+    (either NoChange (handler == 1) (record { holds = either_outcome NoChange (nat_lt (word arg 1 + 1) (length setup.ports)) tt tt }) (record { holds = tt }))
+link_row setup s (Moment.Resume handler frame reply) = record { holds = tt }
 
 suspect_row : (setup : Setup) (s : List Watch) (x : Option ℕ) → Row NoChange (fd.fd_suspect setup s x)
-suspect_row setup s None = record { shape = tt }
-suspect_row setup s (Some x) = record { shape = tt }
+suspect_row setup s None = record { holds = tt }
+suspect_row setup s (Some x) = record { holds = tt }
 
 fd_row : (setup : Setup) (s : List Watch) (m : Moment) → Row NoChange (fd.fd_step setup s m)
-fd_row setup s (Moment.Begin handler arg) = either NoChange (handler == 0) (record { shape = tt }) (either NoChange (handler == 1) (record { shape = tt }) (record { shape = tt }))
-fd_row setup s (Moment.Resume handler frame reply) = either NoChange (handler == 0) (suspect_row setup s (fd.fd_due setup (word frame 0) 0 s)) (record { shape = tt })
+fd_row setup s (Moment.Begin handler arg) = either NoChange (handler == 0) (record { holds = tt }) (either NoChange (handler == 1) (record { holds = tt }) (record { holds = tt }))
+fd_row setup s (Moment.Resume handler frame reply) = either NoChange (handler == 0) (suspect_row setup s (fd.fd_due setup (word frame 0) 0 s)) (record { holds = tt })
 
 views_row : (setup : Setup) (s : ViewsState) (m : Moment) → Row NoChange (vi.views_step setup s m)
-views_row setup s (Moment.Begin handler arg) = either NoChange (handler == 0) (record { shape = tt }) (either NoChange (handler == 1) (record { shape = tt }) (record { shape = tt }))
-views_row setup s (Moment.Resume handler frame reply) = record { shape = tt }
+views_row setup s (Moment.Begin handler arg) = either NoChange (handler == 0) (record { holds = tt }) (either NoChange (handler == 1) (record { holds = tt }) (record { holds = tt }))
+views_row setup s (Moment.Resume handler frame reply) = record { holds = tt }
 
 seqcast-drain : (setup : Setup) (s : SeqcastState) → Row NoChange (sq.seqcast_drain setup s)
-seqcast-drain setup s = record { shape = go (message_of s.got s.next) }
+seqcast-drain setup s = record { holds = go (message_of s.got s.next) }
   where
     go : (m : Option Message) → NoChange (sq.seqcast_hand_on setup s.next m)
     go None = tt
     go (Some m) = tt
 
 seqcast-number : (setup : Setup) (s : SeqcastState) (m : Message) → Row NoChange (sq.seqcast_number setup s m)
-seqcast-number setup s m = either NoChange (not (me setup == V setup 1) || has_key s.keys (message_key m)) (record { shape = tt }) (record { shape = tt })
+seqcast-number setup s m = either NoChange (not (me setup == V setup 1) || has_key s.keys (message_key m)) (record { holds = tt }) (record { holds = tt })
 
 seqcast_row : (setup : Setup) (s : SeqcastState) (m : Moment) → Row NoChange (sq.seqcast_step setup s m)
 seqcast_row setup s (Moment.Begin handler arg) =
-    either NoChange (handler == 0) (record { shape = tt })
+    either NoChange (handler == 0) (record { holds = tt })
     (either NoChange (handler == 1)
     (either NoChange (word arg 1 == 0) (seqcast-number setup s (message_at arg 2))
-    (either NoChange (word arg 1 == 1) (seqcast-drain setup _) (record { shape = tt })))
-    (record { shape = tt }))
+    (either NoChange (word arg 1 == 1) (seqcast-drain setup _) (record { holds = tt })))
+    (record { holds = tt }))
 seqcast_row setup s (Moment.Resume handler frame reply) =
-    either NoChange (handler == 1) (either NoChange (word frame 0 == 1) (seqcast-drain setup _) (record { shape = tt })) (record { shape = tt })
+    either NoChange (handler == 1) (either NoChange (word frame 0 == 1) (seqcast-drain setup _) (record { holds = tt })) (record { holds = tt })
 
 done_no_change : (o : Outcome) → IsDone o → NoChange o
 done_no_change (Outcome.Done reply) d = tt
@@ -93,19 +94,19 @@ ab_no_change setup o (AbProposes i m is) = call_no_change o _ _ _ is
 ab_no_change setup o (AbHandsOn i m is) = call_no_change o _ _ _ is
 
 by_link : (setup : Setup) (s : State) (m : Moment) → NoChange (kind_step Link setup s m).1
-by_link setup (OfLink s) m = (link_row setup s m).shape
+by_link setup (OfLink s) m = (link_row setup s m).holds
 by_link setup _ m = tt
 
 by_fd : (setup : Setup) (s : State) (m : Moment) → NoChange (kind_step Fd setup s m).1
-by_fd setup (OfFd s) m = (fd_row setup s m).shape
+by_fd setup (OfFd s) m = (fd_row setup s m).holds
 by_fd setup _ m = tt
 
 by_seqcast : (setup : Setup) (s : State) (m : Moment) → NoChange (kind_step Seqcast setup s m).1
-by_seqcast setup (OfSeqcast s) m = (seqcast_row setup s m).shape
+by_seqcast setup (OfSeqcast s) m = (seqcast_row setup s m).holds
 by_seqcast setup _ m = tt
 
 by_views : (setup : Setup) (s : State) (m : Moment) → NoChange (kind_step Views setup s m).1
-by_views setup (OfViews s) m = (views_row setup s m).shape
+by_views setup (OfViews s) m = (views_row setup s m).holds
 by_views setup _ m = tt
 
 by_none : (setup : Setup) (s : State) (m : Moment) → setup.codes ≡ [] → NoChange (kind_step Prog setup s m).1

@@ -20,7 +20,8 @@ use Rattle.samoa_laws.specs.trace.Trace.{HandlerStep, micro_of}
 use Rattle.samoa_laws.specs.trace.Causes.{Cause, FollowsIn, IsTrace, Setting}
 use Rattle.samoa_laws.specs.trace.Group.{IsGroupHistory, handler, rebindings_at}
 use Rattle.samoa_serial.proofs.ListLaws.{each_in}
-use Rattle.samoa_laws.proofs.trace.Shapes.{Asks, AtPort, IsQuiet, Quiet, Row, either, either_outcome}
+use Rattle.samoa_laws.proofs.trace.Shapes.{Asks, AtPort, IsQuiet, Quiet}
+use Rattle.samoa_serial.proofs.RowLaws.{Row, either, either_outcome}
 use Rattle.samoa_laws.proofs.trace.Steps.{Before, IsAt, before, same_setting, setting}
 use Rattle.samoa_laws.proofs.trace.Worlds.{bound_stands, event_for}
 use Rattle.samoa_laws.specs.replacement.Casts.{IsCast, IsRebound, handler_of, switches}
@@ -45,19 +46,19 @@ hand_on-up setup epoch None = Quiet tt
 hand_on-up setup epoch (Some m) = either_outcome (UpOnly setup) (re.is_change setup m.kind m.value) (Quiet tt) (Quiet tt)
 
 drain-up : (setup : Setup) (s : ReplState) → Row (UpOnly setup) (re.repl_drain setup s)
-drain-up setup s = record { shape = hand_on-up setup s.epoch (re.first_of s.epoch (filter (re.is_to_come s) s.early)) }
+drain-up setup s = record { holds = hand_on-up setup s.epoch (re.first_of s.epoch (filter (re.is_to_come s) s.early)) }
 
 marked-up : (setup : Setup) (s : ReplState) (x : ℕ) (m : Option Message) → Row (UpOnly setup) (re.repl_marked setup s x m)
-marked-up setup s x None = record { shape = Quiet tt }
+marked-up setup s x None = record { holds = Quiet tt }
 marked-up setup s x (Some m) =
     let marked : ReplState = re.repl_mark setup s m in
     either (UpOnly setup) (x == 0) (drain-up setup marked)
-    (either (UpOnly setup) (x == 1) (drain-up setup (record marked { epoch = up s.epoch; hold = 1 })) (record { shape = AtPort 1 (inl refl) _ _ refl }))
+    (either (UpOnly setup) (x == 1) (drain-up setup (record marked { epoch = up s.epoch; hold = 1 })) (record { holds = AtPort 1 (inl refl) _ _ refl }))
 
 deliver_on-up : (setup : Setup) (s : ReplState) (x : ℕ) → Row (UpOnly setup) (re.repl_deliver_on setup s x)
 deliver_on-up setup s x =
     either (UpOnly setup) (nat_lt x 3) (marked-up setup s x (re.first_of s.epoch s.early))
-    (either (UpOnly setup) (x == 3) (drain-up setup s) (record { shape = Quiet tt }))
+    (either (UpOnly setup) (x == 3) (drain-up setup s) (record { holds = Quiet tt }))
 
 calls_by : (setup : Setup) (s : ReplState) (m : Moment) → ((handler_of m ≡ 0) ⊎ (handler_of m ≡ 2)) ⊎ UpOnly setup (re.repl_step setup s m).1
 calls_by setup s (Moment.Begin i arg) = go (i == 0) (i == 1) (i == 2) refl refl
@@ -66,7 +67,7 @@ calls_by setup s (Moment.Begin i arg) = go (i == 0) (i == 1) (i == 2) refl refl
         (if a then re.repl_cast setup s (word arg 0) (word arg 1) else if b then re.repl_deliver setup s (message_at arg 0) else
         if c then re.repl_switched setup s (word arg 0) else (s, Outcome.Done [])).1
     go true b c e f = inl (inl (eqb-true i 0 e))
-    go false true c e f = inr (drain-up setup (record s { early = if nat_le s.epoch (message_at arg 0).epoch then s.early ++ message_at arg 0 ∷ [] else s.early })).shape
+    go false true c e f = inr (drain-up setup (record s { early = if nat_le s.epoch (message_at arg 0).epoch then s.early ++ message_at arg 0 ∷ [] else s.early })).holds
     go false false true e f = inl (inr (eqb-true i 2 f))
     go false false false e f = inr (Quiet tt)
 calls_by setup s (Moment.Resume i frame reply) = go (i == 0) (i == 1) (i == 2) refl refl
@@ -75,7 +76,7 @@ calls_by setup s (Moment.Resume i frame reply) = go (i == 0) (i == 1) (i == 2) r
         (if a then (s, Outcome.Done (word frame 0 ∷ [])) else if b then re.repl_deliver_on setup s (word frame 0) else
         if c then re.repl_go_on setup s (word frame 0) else (s, Outcome.Done [])).1
     go true b c e f = inl (inl (eqb-true i 0 e))
-    go false true c e f = inr (deliver_on-up setup s (word frame 0)).shape
+    go false true c e f = inr (deliver_on-up setup s (word frame 0)).holds
     go false false true e f = inl (inr (eqb-true i 2 f))
     go false false false e f = inr (Quiet tt)
 

@@ -26,39 +26,29 @@ first = codes "0" ∷ codes "1" ∷ codes "0" ∷ codes "7" ∷ []
 abbrev second : List (List ℕ)
 second = codes "1" ∷ codes "1" ∷ codes "2" ∷ codes "18446744073709551615" ∷ []
 
-at_one : stream_in (text ++ codes "S 0 repl 0 1 1 0\nN 3 4 1\n") 1 ≡ first ∷ second ∷ []
-at_one = refl
-
-at_zero : stream_in text 0 ≡ first ∷ []
-at_zero = refl
-
-nowhere : stream_in text 2 ≡ []
-nowhere = refl
-
-of_another : told_at 1 (codes "app") text ≡ (codes "9" ∷ []) ∷ []
-of_another = refl
-
 -- a last line that is cut is no line, though it looks whole but for its line feed
-cut_off : stream_in (text ++ codes "E 4 3 1 wire 5\nD 4 repl 0 2 0 8") 1 ≡ first ∷ second ∷ []
-cut_off = refl
+abbrev cut_off : List ℕ
+cut_off = text ++ codes "E 4 3 1 wire 5\nD 4 repl 0 2 0 8"
 
-cut_in_a_number : stream_in (codes "E 1 1 1 cast 0 7\nD 1 repl 0 1 0 7\nD 1 repl 0 12") 1 ≡ first ∷ []
-cut_in_a_number = refl
+abbrev cut_in_a_number : List ℕ
+cut_in_a_number = codes "E 1 1 1 cast 0 7\nD 1 repl 0 1 0 7\nD 1 repl 0 12"
 
 -- a delivery with no words, and a line whose name only begins so
-no_words : stream_in (codes "E 1 1 0 cast\nD 1 repl\nD 1 replica 3\n") 0 ≡ [] ∷ []
-no_words = refl
+abbrev no_words : List ℕ
+no_words = codes "E 1 1 0 cast\nD 1 repl\nD 1 replica 3\n"
 
 -- nothing is told before a computation is headed
-no_head : stream_in (codes "D 1 repl 0 1 0 7\n") 0 ≡ []
-no_head = refl
+abbrev no_head : List ℕ
+no_head = codes "D 1 repl 0 1 0 7\n"
 
--- two that begin alike
-alike_two : alike first (codes "0" ∷ codes "1" ∷ codes "2" ∷ []) ≡ true
-alike_two = refl
+tells : (stream_in (text ++ codes "S 0 repl 0 1 1 0\nN 3 4 1\n") 1 ≡ first ∷ second ∷ []) × (stream_in text 0 ≡ first ∷ []) × (stream_in text 2 ≡ [])
+    × (told_at 1 (codes "app") text ≡ (codes "9" ∷ []) ∷ []) × (stream_in cut_off 1 ≡ first ∷ second ∷ []) × (stream_in cut_in_a_number 1 ≡ first ∷ [])
+    × (stream_in no_words 0 ≡ [] ∷ []) × (stream_in no_head 0 ≡ [])
+tells = (refl, refl, refl, refl, refl, refl, refl, refl)
 
-alike_not : alike first second ≡ false
-alike_not = refl
+-- two that begin alike, and two that don't
+likened : (alike first (codes "0" ∷ codes "1" ∷ codes "2" ∷ []) ≡ true) × (alike first second ≡ false)
+likened = (refl, refl)
 
 -- the lines of a journal tell nothing, nor does a line that is cut
 journal : IsMute (codes "J 3\na 1\ne 1 6\nl 1\nD 1 repl 5")

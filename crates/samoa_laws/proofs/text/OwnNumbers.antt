@@ -1,6 +1,5 @@
 -- What the replacement layer casts has this node and a number of its own, and what it delivers came up to it.
 use Rattle.std.proofs.Common.{◌≡◌, refl, sym, subst, ℕ, ◌<◌, ◌^◌, ◌==◌, arith, Bool, true, false, ◌&&◌, ◌||◌, not, nat_lt, nat_le, if◌then◌else◌, List, [], ◌∷◌, ◌++◌, filter, find, Option, Some, None}
-use Rattle.std.specs.Prelude.{⊤}
 use Rattle.samoa_model.specs.declared.handler.Moment.{Moment}
 use Rattle.samoa_model.specs.declared.handler.Outcome.{Outcome}
 use Rattle.samoa_model.specs.declared.setup.Setup.{Setup}
@@ -14,6 +13,7 @@ use Rattle.samoa_serial.specs.declared.message.Message.{Message}
 use Rattle.samoa_serial.specs.declared.message.Own.{Own}
 use Rattle.samoa_laws.specs.replacement.History.{Step, IsHistory, begun, begun_in, left_by, said, stream, words_in}
 use Rattle.samoa_laws.specs.streams.Streams.{repl_setup}
+use Rattle.std.specs.Option.{IfSome}
 
 -- the event and the words of a call
 abbrev pub called : Outcome → ℕ
@@ -32,15 +32,11 @@ each_filter P test (x ∷ xs) all = go (test x) (each_filter P test xs all.1)
     go true rest = (all.0, rest)
     go false rest = rest
 
-abbrev Maybe : {A : Type 0} → (A → Type 0) → Option A → Type 0
-Maybe P None = ⊤
-Maybe P (Some x) = P x
-
-each_find : {A : Type 0} (P : A → Type 0) (test : A → Bool) (xs : List A) → Each P xs → Maybe P (find test xs)
+each_find : {A : Type 0} (P : A → Type 0) (test : A → Bool) (xs : List A) → Each P xs → IfSome (find test xs) P
 each_find P test [] all = tt
 each_find P test (x ∷ xs) all = go (test x) (each_find P test xs all.1)
   where
-    go : (b : Bool) → Maybe P (find test xs) → Maybe P (if b then Some x else find test xs)
+    go : (b : Bool) → IfSome (find test xs) P → IfSome (if b then Some x else find test xs) P
     go true rest = all.0
     go false rest = rest
 
@@ -76,7 +72,7 @@ module _ (Q : Message → Type 0) (script : Script) (v : ℕ) where
     given = subst (λ (ws : List (List ℕ)). Each IsSaid ws) (sym nothing) tt;
   }
 
-  hand_on : (epoch : ℕ) (m : Option Message) → Maybe Q m → Gives (repl_hand_on setup epoch m)
+  hand_on : (epoch : ℕ) (m : Option Message) → IfSome m Q → Gives (repl_hand_on setup epoch m)
   hand_on epoch None q = quiet (Outcome.Done []) refl refl
   hand_on epoch (Some m) q = go (is_change setup m.kind m.value)
     where
@@ -108,7 +104,7 @@ module _ (Q : Message → Type 0) (script : Script) (v : ℕ) where
       go true = each_filter IsOwn (λ (own : Own). not (own.number == m.number)) s.mine k.mine
       go false = k.mine
 
-  recast : (epoch : ℕ) (m : Option Own) → Maybe IsOwn m → Gives (repl_recast setup epoch m)
+  recast : (epoch : ℕ) (m : Option Own) → IfSome m IsOwn → Gives (repl_recast setup epoch m)
   recast epoch None q = quiet (Outcome.Done []) refl refl
   recast epoch (Some own) q = record { cast = λ twelve. (refl, q); given = tt }
 

@@ -1,8 +1,7 @@
 -- What the boxes of the group stack send and ask for: only the link sends, the event of its first port, and only the replacement asks, for one of its changes.
-use Rattle.std.proofs.Common.{Bool, List, None, Option, Some, [], arith, drop, false, if◌then◌else◌, length, not, refl, subst, sym, true, ℕ, ◌&&◌, ◌+◌, ◌<◌, ◌==◌, ◌||◌, ◌∷◌, ◌≡◌}
+use Rattle.std.proofs.Common.{Bool, List, None, Option, Some, [], drop, false, if◌then◌else◌, length, not, refl, subst, sym, true, ℕ, ◌&&◌, ◌+◌, ◌<◌, ◌==◌, ◌||◌, ◌∷◌, ◌≡◌}
 use Rattle.std.specs.Prelude.{⊤, nat_lt, find, filter}
 use Rattle.std.proofs.lemmas.Bool.{ltb-true}
-use Rattle.std.proofs.lemmas.Grind.{common_steps}
 use Rattle.samoa_model.specs.declared.handler.Dest.{Dest}
 use Rattle.samoa_model.specs.declared.handler.Moment.{Moment}
 use Rattle.samoa_model.specs.declared.handler.Outcome.{Outcome}
@@ -21,7 +20,9 @@ use Rattle.samoa_serial.specs.LinkTable as li
 use Rattle.samoa_serial.specs.ReplTable as re
 use Rattle.samoa_serial.specs.SeqcastTable as sq
 use Rattle.samoa_serial.specs.ViewsTable as vi
-use Rattle.samoa_laws.proofs.trace.Shapes.{AbSays, AbNothing, AbCasts, AbProposes, AbHandsOn, ConsSays, ConsNothing, ConsTells, ConsAnnounces, ConsDecides, IsDone, RbShape, Casts, Relays, HandsUp, Rests, Row, abcast-step, cons-step, rbcast-step}
+use Rattle.samoa_laws.proofs.trace.Shapes.{AbSays, AbNothing, AbCasts, AbProposes, AbHandsOn, ConsSays, ConsNothing, ConsTells, ConsAnnounces, ConsDecides, IsDone, RbShape, Casts, Relays, HandsUp, Rests, abcast-step, cons-step, rbcast-step}
+use Rattle.samoa_serial.proofs.RowLaws.{Row}
+use Rattle.samoa_serial.proofs.RowLaws.{and_right}
 
 abbrev pub IsNodeOf : Setup → Dest → Type 0
 IsNodeOf setup (Dest.One node) = node.0 < setup.nodes
@@ -71,30 +72,30 @@ dest_is setup to = go (nat_lt to setup.nodes) refl
 
 link-out : (setup : Setup) → port_at setup 0 ≡ wire → (s : LinkState) (m : Moment) → Out setup (li.link_step setup s m)
 link-out setup first s (Moment.Begin handler arg) =
-    either setup (handler == 0) (record { shape = (dest_is setup (word arg 0), first) })
-    (either setup (handler == 1) (record { shape = either_outcome setup (nat_lt (word arg 1 + 1) (length setup.ports)) (call setup (word arg 1 + 1) (word arg 0 ∷ drop 2 arg) []) (done []) tt tt }) (record { shape = tt }))
-link-out setup first s (Moment.Resume handler frame reply) = record { shape = tt }
+    either setup (handler == 0) (record { holds = (dest_is setup (word arg 0), first) })
+    (either setup (handler == 1) (record { holds = either_outcome setup (nat_lt (word arg 1 + 1) (length setup.ports)) (call setup (word arg 1 + 1) (word arg 0 ∷ drop 2 arg) []) (done []) tt tt }) (record { holds = tt }))
+link-out setup first s (Moment.Resume handler frame reply) = record { holds = tt }
 
 -- the failure detector
 fd-suspect : (setup : Setup) (s : List Watch) (x : Option ℕ) → Out setup (fd.fd_suspect setup s x)
-fd-suspect setup s None = record { shape = tt }
-fd-suspect setup s (Some x) = record { shape = tt }
+fd-suspect setup s None = record { holds = tt }
+fd-suspect setup s (Some x) = record { holds = tt }
 
 fd-out : (setup : Setup) (s : List Watch) (m : Moment) → Out setup (fd.fd_step setup s m)
 fd-out setup s (Moment.Begin handler arg) =
-    either setup (handler == 0) (record { shape = tt }) (either setup (handler == 1) (record { shape = tt }) (record { shape = tt }))
+    either setup (handler == 0) (record { holds = tt }) (either setup (handler == 1) (record { holds = tt }) (record { holds = tt }))
 fd-out setup s (Moment.Resume handler frame reply) =
-    either setup (handler == 0) (fd-suspect setup s (fd.fd_due setup (word frame 0) 0 s)) (record { shape = tt })
+    either setup (handler == 0) (fd-suspect setup s (fd.fd_due setup (word frame 0) 0 s)) (record { holds = tt })
 
 -- the views
 views-out : (setup : Setup) (s : ViewsState) (m : Moment) → Out setup (vi.views_step setup s m)
 views-out setup s (Moment.Begin handler arg) =
-    either setup (handler == 0) (record { shape = tt }) (either setup (handler == 1) (record { shape = tt }) (record { shape = tt }))
-views-out setup s (Moment.Resume handler frame reply) = record { shape = tt }
+    either setup (handler == 0) (record { holds = tt }) (either setup (handler == 1) (record { holds = tt }) (record { holds = tt }))
+views-out setup s (Moment.Resume handler frame reply) = record { holds = tt }
 
 -- the sequencer
 seqcast-drain : (setup : Setup) (s : SeqcastState) → Out setup (sq.seqcast_drain setup s)
-seqcast-drain setup s = record { shape = go (message_of s.got s.next) }
+seqcast-drain setup s = record { holds = go (message_of s.got s.next) }
   where
     go : (m : Option Message) → IsOut setup (sq.seqcast_hand_on setup s.next m)
     go None = tt
@@ -102,22 +103,17 @@ seqcast-drain setup s = record { shape = go (message_of s.got s.next) }
 
 seqcast-number : (setup : Setup) (s : SeqcastState) (m : Message) → Out setup (sq.seqcast_number setup s m)
 seqcast-number setup s m =
-    either setup (not (me setup == V setup 1) || has_key s.keys (message_key m)) (record { shape = tt }) (record { shape = tt })
+    either setup (not (me setup == V setup 1) || has_key s.keys (message_key m)) (record { holds = tt }) (record { holds = tt })
 
 seqcast-out : (setup : Setup) (s : SeqcastState) (m : Moment) → Out setup (sq.seqcast_step setup s m)
 seqcast-out setup s (Moment.Begin handler arg) =
-    either setup (handler == 0) (record { shape = tt })
+    either setup (handler == 0) (record { holds = tt })
     (either setup (handler == 1)
     (either setup (word arg 1 == 0) (seqcast-number setup s (message_at arg 2))
-    (either setup (word arg 1 == 1) (seqcast-drain setup _) (record { shape = tt })))
-    (record { shape = tt }))
+    (either setup (word arg 1 == 1) (seqcast-drain setup _) (record { holds = tt })))
+    (record { holds = tt }))
 seqcast-out setup s (Moment.Resume handler frame reply) =
-    either setup (handler == 1) (either setup (word frame 0 == 1) (seqcast-drain setup _) (record { shape = tt })) (record { shape = tt })
-
--- the replacement
-and_right : (a b : Bool) → (a && b) ≡ true → b ≡ true
-and_right true b e = e
-and_right false b e = absurd (grind (arith, common_steps, e))
+    either setup (handler == 1) (either setup (word frame 0 == 1) (seqcast-drain setup _) (record { holds = tt })) (record { holds = tt })
 
 repl-hand_on : (setup : Setup) (epoch : ℕ) (m : Option Message) → IsOut setup (re.repl_hand_on setup epoch m)
 repl-hand_on setup epoch None = tt
@@ -129,62 +125,62 @@ repl-hand_on setup epoch (Some m) = go (re.is_change setup m.kind m.value) refl
     go false e = tt
 
 repl-drain : (setup : Setup) (s : ReplState) → Out setup (re.repl_drain setup s)
-repl-drain setup s = record { shape = repl-hand_on setup s.epoch (re.first_of s.epoch (filter (re.is_to_come s) s.early)) }
+repl-drain setup s = record { holds = repl-hand_on setup s.epoch (re.first_of s.epoch (filter (re.is_to_come s) s.early)) }
 
 repl-recast : (setup : Setup) (epoch : ℕ) (own : Option Own) → IsOut setup (re.repl_recast setup epoch own)
 repl-recast setup epoch None = tt
 repl-recast setup epoch (Some own) = tt
 
 repl-go_on : (setup : Setup) (s : ReplState) (x : ℕ) → Out setup (re.repl_go_on setup s x)
-repl-go_on setup s x = record { shape = repl-recast setup s.epoch (find (λ (own : Own). nat_lt x own.number) s.mine) }
+repl-go_on setup s x = record { holds = repl-recast setup s.epoch (find (λ (own : Own). nat_lt x own.number) s.mine) }
 
 repl-cast : (setup : Setup) (s : ReplState) (kind value : ℕ) → Out setup (re.repl_cast setup s kind value)
 repl-cast setup s kind value =
-    either setup (nat_lt 2 kind || ((kind == 1) && not (re.is_change setup kind value))) (record { shape = tt })
+    either setup (nat_lt 2 kind || ((kind == 1) && not (re.is_change setup kind value))) (record { holds = tt })
     (record {
-      shape = let own : Own = record { number = up s.count; kind = kind; value = value } in
+      holds = let own : Own = record { number = up s.count; kind = kind; value = value } in
           either_outcome setup (s.hold == 0) (re.repl_recast setup s.epoch (Some own)) (done (up s.count ∷ [])) (repl-recast setup s.epoch (Some own)) tt;
     })
 
 repl-marked : (setup : Setup) (s : ReplState) (x : ℕ) (m : Option Message) → Out setup (re.repl_marked setup s x m)
-repl-marked setup s x None = record { shape = tt }
+repl-marked setup s x None = record { holds = tt }
 repl-marked setup s x (Some m) =
     let marked : ReplState = re.repl_mark setup s m in
     either setup (x == 0) (repl-drain setup marked)
-    (either setup (x == 1) (repl-drain setup (record marked { epoch = up s.epoch; hold = 1 })) (record { shape = tt }))
+    (either setup (x == 1) (repl-drain setup (record marked { epoch = up s.epoch; hold = 1 })) (record { holds = tt }))
 
 repl-out : (setup : Setup) (s : ReplState) (m : Moment) → Out setup (re.repl_step setup s m)
 repl-out setup s (Moment.Begin handler arg) =
     either setup (handler == 0) (repl-cast setup s (word arg 0) (word arg 1))
     (either setup (handler == 1) (repl-drain setup _)
     (either setup (handler == 2)
-    (either setup (word arg 0 == s.epoch) (repl-go_on setup (record s { hold = 0 }) 0) (record { shape = tt })) (record { shape = tt })))
+    (either setup (word arg 0 == s.epoch) (repl-go_on setup (record s { hold = 0 }) 0) (record { holds = tt })) (record { holds = tt })))
 repl-out setup s (Moment.Resume handler frame reply) =
-    either setup (handler == 0) (record { shape = tt })
+    either setup (handler == 0) (record { holds = tt })
     (either setup (handler == 1)
     (either setup (nat_lt (word frame 0) 3) (repl-marked setup s (word frame 0) (re.first_of s.epoch s.early))
-    (either setup (word frame 0 == 3) (repl-drain setup s) (record { shape = tt })))
-    (either setup (handler == 2) (repl-go_on setup s (word frame 0)) (record { shape = tt })))
+    (either setup (word frame 0 == 3) (repl-drain setup s) (record { holds = tt })))
+    (either setup (handler == 2) (repl-go_on setup s (word frame 0)) (record { holds = tt })))
 
 -- a step of a box, whatever its state
 pub link_given : (setup : Setup) → port_at setup 0 ≡ wire → (s : State) (m : Moment) → IsOut setup (kind_step Link setup s m).1
-link_given setup first (OfLink s) m = (link-out setup first s m).shape
+link_given setup first (OfLink s) m = (link-out setup first s m).holds
 link_given setup first _ m = tt
 
 pub fd_given : (setup : Setup) (s : State) (m : Moment) → IsOut setup (kind_step Fd setup s m).1
-fd_given setup (OfFd s) m = (fd-out setup s m).shape
+fd_given setup (OfFd s) m = (fd-out setup s m).holds
 fd_given setup _ m = tt
 
 pub views_given : (setup : Setup) (s : State) (m : Moment) → IsOut setup (kind_step Views setup s m).1
-views_given setup (OfViews s) m = (views-out setup s m).shape
+views_given setup (OfViews s) m = (views-out setup s m).holds
 views_given setup _ m = tt
 
 pub seqcast_given : (setup : Setup) (s : State) (m : Moment) → IsOut setup (kind_step Seqcast setup s m).1
-seqcast_given setup (OfSeqcast s) m = (seqcast-out setup s m).shape
+seqcast_given setup (OfSeqcast s) m = (seqcast-out setup s m).holds
 seqcast_given setup _ m = tt
 
 pub repl_given : (setup : Setup) (s : State) (m : Moment) → IsOut setup (kind_step Repl setup s m).1
-repl_given setup (OfRepl s) m = (repl-out setup s m).shape
+repl_given setup (OfRepl s) m = (repl-out setup s m).holds
 repl_given setup _ m = tt
 
 pub cons_given : (setup : Setup) (s : State) (m : Moment) → IsOut setup (kind_step Cons setup s m).1

@@ -27,6 +27,7 @@ use Rattle.samoa_serial.specs.ReplTable as re
 use Rattle.samoa_serial.specs.SeqcastTable as sq
 use Rattle.samoa_serial.specs.ViewsTable as vi
 use Rattle.samoa_serial.specs.Lists.{In}
+use Rattle.samoa_serial.proofs.RowLaws.{Row, either, either_outcome}
 
 -- asks for no call and sends nothing
 abbrev pub IsQuiet : Outcome → Type 0
@@ -57,18 +58,6 @@ pub record Tells (setup : Setup) (o : Outcome) : Type 0 where
 abbrev pub Talks : Setup → List ℕ → Outcome → Type 0
 Talks setup ports o = Tells setup o ⊎ Asks setup ports o
 
--- a row: its outcome is such
-pub record Row {S : Type 0} (P : Outcome → Type 0) (r : S × Outcome) : Type 0 where
-  pub shape : P r.1
-
-pub either : {S : Type 0} (P : Outcome → Type 0) (b : Bool) {x y : S × Outcome} → Row P x → Row P y → Row P (if b then x else y)
-either P true p q = p
-either P false p q = q
-
-pub either_outcome : (P : Outcome → Type 0) (b : Bool) {x y : Outcome} → P x → P y → P (if b then x else y)
-either_outcome P true p q = p
-either_outcome P false p q = q
-
 either_equal : {S : Type 0} (P : Outcome → Type 0) (a b : ℕ) {x y : S × Outcome} → (a ≡ b → Row P x) → Row P y → Row P (if a == b then x else y)
 either_equal P a b {x} {y} p q = go (a == b) refl
   where
@@ -86,19 +75,19 @@ pub data LinkShape (setup : Setup) (m : Moment) (o : Outcome) : Type 0 where
 
 link-shape : (setup : Setup) (s : LinkState) (m : Moment) → Row (LinkShape setup m) (li.link_step setup s m)
 link-shape setup s (Moment.Begin handler arg) =
-    either_equal (LinkShape setup (Moment.Begin handler arg)) handler 0 (λ e. record { shape = Sends arg (ap (λ (i : ℕ). Moment.Begin i arg) e) refl })
+    either_equal (LinkShape setup (Moment.Begin handler arg)) handler 0 (λ e. record { holds = Sends arg (ap (λ (i : ℕ). Moment.Begin i arg) e) refl })
     (either_equal (LinkShape setup (Moment.Begin handler arg)) handler 1
-    (λ e. record { shape = (hands e).shape })
-    (record { shape = Silent tt }))
+    (λ e. record { holds = (hands e).holds })
+    (record { holds = Silent tt }))
   where
     hands : handler ≡ 1 → Row (LinkShape setup (Moment.Begin handler arg)) (li.link_recv setup s (word arg 0) (word arg 1) (drop 2 arg))
-    hands e = record { shape = go (nat_lt (word arg 1 + 1) (length setup.ports)) refl }
+    hands e = record { holds = go (nat_lt (word arg 1 + 1) (length setup.ports)) refl }
       where
         go : (b : Bool) → nat_lt (word arg 1 + 1) (length setup.ports) ≡ b
             → LinkShape setup (Moment.Begin handler arg) (if b then call setup (word arg 1 + 1) (word arg 0 ∷ drop 2 arg) [] else done [])
         go true lt = Hands arg (ap (λ (i : ℕ). Moment.Begin i arg) e) (ltb-true (word arg 1 + 1) (length setup.ports) lt) refl
         go false lt = Silent tt
-link-shape setup s (Moment.Resume handler frame reply) = record { shape = Silent tt }
+link-shape setup s (Moment.Resume handler frame reply) = record { holds = Silent tt }
 
 -- rbcast: it passes on what it was called with or what it received, and then hands it up
 pub data RbShape (setup : Setup) (m : Moment) (o : Outcome) : Type 0 where
@@ -116,17 +105,17 @@ pub data RbShape (setup : Setup) (m : Moment) (o : Outcome) : Type 0 where
 rbcast-shape : (setup : Setup) (s : RbcastState) (m : Moment) → Row (RbShape setup m) (rb.rbcast_step setup s m)
 rbcast-shape setup s (Moment.Begin handler arg) =
     either_equal (RbShape setup (Moment.Begin handler arg)) handler 0
-    (λ e. record { shape = Casts arg (ap (λ (i : ℕ). Moment.Begin i arg) e) ((s.seq + 1) % 2 ^ 64) refl })
+    (λ e. record { holds = Casts arg (ap (λ (i : ℕ). Moment.Begin i arg) e) ((s.seq + 1) % 2 ^ 64) refl })
     (either_equal (RbShape setup (Moment.Begin handler arg)) handler 1
-    (λ e. either (RbShape setup (Moment.Begin handler arg)) (has_pair s.seen (record { origin = word arg 1; number = word arg 2 })) (record { shape = Rests tt })
-    (record { shape = Relays arg (ap (λ (i : ℕ). Moment.Begin i arg) e) refl }))
-    (record { shape = Rests tt }))
+    (λ e. either (RbShape setup (Moment.Begin handler arg)) (has_pair s.seen (record { origin = word arg 1; number = word arg 2 })) (record { holds = Rests tt })
+    (record { holds = Relays arg (ap (λ (i : ℕ). Moment.Begin i arg) e) refl }))
+    (record { holds = Rests tt }))
 rbcast-shape setup s (Moment.Resume handler frame reply) =
     either_equal (RbShape setup (Moment.Resume handler frame reply)) handler 0
-    (λ e. record { shape = cast_on (eqb_tells (word frame 0) 1) })
+    (λ e. record { holds = cast_on (eqb_tells (word frame 0) 1) })
     (either_equal (RbShape setup (Moment.Resume handler frame reply)) handler 1
-    (λ e. record { shape = recv_on (eqb_tells (word frame 0) 1) })
-    (record { shape = Rests tt }))
+    (λ e. record { holds = recv_on (eqb_tells (word frame 0) 1) })
+    (record { holds = Rests tt }))
   where
     cast_on : ((word frame 0 == 1) ≡ true) × (word frame 0 ≡ 1) ⊎ ((word frame 0 == 1) ≡ false) × (word frame 0 ≢ 1)
         → RbShape setup (Moment.Resume handler frame reply) (rb.rbcast_cast_on setup (word frame 0) (word frame 1) (word frame 2) (drop 3 frame))
@@ -143,15 +132,15 @@ abbrev FdTalks : Setup → Outcome → Type 0
 FdTalks setup = Talks setup (1 ∷ [])
 
 fd-suspect : (setup : Setup) (s : List Watch) (x : Option ℕ) → Row (FdTalks setup) (fd.fd_suspect setup s x)
-fd-suspect setup s None = record { shape = inr (Quiet tt) }
-fd-suspect setup s (Some x) = record { shape = inr (AtPort 1 (inl refl) _ _ refl) }
+fd-suspect setup s None = record { holds = inr (Quiet tt) }
+fd-suspect setup s (Some x) = record { holds = inr (AtPort 1 (inl refl) _ _ refl) }
 
 pub fd-talks : (setup : Setup) (s : List Watch) (m : Moment) → Row (FdTalks setup) (fd.fd_step setup s m)
 fd-talks setup s (Moment.Begin handler arg) =
-    either (FdTalks setup) (handler == 0) (record { shape = inl (record { to = setup.nodes; words = _; frame = _; is = refl; short = omega arith }) })
-    (either (FdTalks setup) (handler == 1) (record { shape = inr (Quiet tt) }) (record { shape = inr (Quiet tt) }))
+    either (FdTalks setup) (handler == 0) (record { holds = inl (record { to = setup.nodes; words = _; frame = _; is = refl; short = omega arith }) })
+    (either (FdTalks setup) (handler == 1) (record { holds = inr (Quiet tt) }) (record { holds = inr (Quiet tt) }))
 fd-talks setup s (Moment.Resume handler frame reply) =
-    either (FdTalks setup) (handler == 0) (fd-suspect setup s (fd.fd_due setup (word frame 0) 0 s)) (record { shape = inr (Quiet tt) })
+    either (FdTalks setup) (handler == 0) (fd-suspect setup s (fd.fd_due setup (word frame 0) 0 s)) (record { holds = inr (Quiet tt) })
 
 -- views
 abbrev ViAsks : Setup → Outcome → Type 0
@@ -159,16 +148,16 @@ ViAsks setup = Asks setup (0 ∷ [])
 
 pub views-asks : (setup : Setup) (s : ViewsState) (m : Moment) → Row (ViAsks setup) (vi.views_step setup s m)
 views-asks setup s (Moment.Begin handler arg) =
-    either (ViAsks setup) (handler == 0) (record { shape = AtPort 0 (inl refl) _ _ refl })
-    (either (ViAsks setup) (handler == 1) (record { shape = Quiet tt }) (record { shape = Quiet tt }))
-views-asks setup s (Moment.Resume handler frame reply) = record { shape = Quiet tt }
+    either (ViAsks setup) (handler == 0) (record { holds = AtPort 0 (inl refl) _ _ refl })
+    (either (ViAsks setup) (handler == 1) (record { holds = Quiet tt }) (record { holds = Quiet tt }))
+views-asks setup s (Moment.Resume handler frame reply) = record { holds = Quiet tt }
 
 -- seqcast
 abbrev SqTalks : Setup → Outcome → Type 0
 SqTalks setup = Talks setup (1 ∷ [])
 
 seqcast-drain : (setup : Setup) (s : SeqcastState) → Row (SqTalks setup) (sq.seqcast_drain setup s)
-seqcast-drain setup s = record { shape = go (message_of s.got s.next) }
+seqcast-drain setup s = record { holds = go (message_of s.got s.next) }
   where
     go : (m : Option Message) → SqTalks setup (sq.seqcast_hand_on setup s.next m)
     go None = inr (Quiet tt)
@@ -176,20 +165,20 @@ seqcast-drain setup s = record { shape = go (message_of s.got s.next) }
 
 seqcast-number : (setup : Setup) (s : SeqcastState) (m : Message) → Row (SqTalks setup) (sq.seqcast_number setup s m)
 seqcast-number setup s m =
-    either (SqTalks setup) (not (me setup == V setup 1) || has_key s.keys (message_key m)) (record { shape = inr (Quiet tt) })
-    (record { shape = inl (record { to = setup.nodes; words = _; frame = _; is = refl; short = omega arith }) })
+    either (SqTalks setup) (not (me setup == V setup 1) || has_key s.keys (message_key m)) (record { holds = inr (Quiet tt) })
+    (record { holds = inl (record { to = setup.nodes; words = _; frame = _; is = refl; short = omega arith }) })
 
 pub seqcast-talks : (setup : Setup) (s : SeqcastState) (m : Moment) → Row (SqTalks setup) (sq.seqcast_step setup s m)
 seqcast-talks setup s (Moment.Begin handler arg) =
-    either (SqTalks setup) (handler == 0) (record { shape = inl (record { to = V setup 1; words = _; frame = _; is = refl; short = omega arith }) })
+    either (SqTalks setup) (handler == 0) (record { holds = inl (record { to = V setup 1; words = _; frame = _; is = refl; short = omega arith }) })
     (either (SqTalks setup) (handler == 1)
     (either (SqTalks setup) (word arg 1 == 0) (seqcast-number setup s (message_at arg 2))
-    (either (SqTalks setup) (word arg 1 == 1) (seqcast-drain setup _) (record { shape = inr (Quiet tt) })))
-    (record { shape = inr (Quiet tt) }))
+    (either (SqTalks setup) (word arg 1 == 1) (seqcast-drain setup _) (record { holds = inr (Quiet tt) })))
+    (record { holds = inr (Quiet tt) }))
 seqcast-talks setup s (Moment.Resume handler frame reply) =
     either (SqTalks setup) (handler == 1)
-    (either (SqTalks setup) (word frame 0 == 1) (seqcast-drain setup _) (record { shape = inr (Quiet tt) }))
-    (record { shape = inr (Quiet tt) })
+    (either (SqTalks setup) (word frame 0 == 1) (seqcast-drain setup _) (record { holds = inr (Quiet tt) }))
+    (record { holds = inr (Quiet tt) })
 
 -- abcast: it casts, proposes, and hands on what was decided
 pub data AbSays (setup : Setup) (o : Outcome) : Type 0 where
@@ -199,13 +188,13 @@ pub data AbSays (setup : Setup) (o : Outcome) : Type 0 where
   AbHandsOn : (instance : ℕ) (m : Message) → o ≡ call setup 2 (message_words m) (1 ∷ instance ∷ []) → AbSays setup o
 
 abcast-offer : (setup : Setup) (s : AbcastState) (pending : List Message) → Row (AbSays setup) (ab.abcast_offer setup s pending)
-abcast-offer setup s [] = record { shape = AbNothing tt }
+abcast-offer setup s [] = record { holds = AbNothing tt }
 abcast-offer setup s (m ∷ ms) =
-    either (AbSays setup) (nat_lt s.proposed s.next) (record { shape = AbProposes s.next m refl }) (record { shape = AbNothing tt })
+    either (AbSays setup) (nat_lt s.proposed s.next) (record { holds = AbProposes s.next m refl }) (record { holds = AbNothing tt })
 
 abcast-hand_on : (setup : Setup) (s : AbcastState) (m : Option Message) → Row (AbSays setup) (ab.abcast_hand_on setup s m)
 abcast-hand_on setup s None = abcast-offer setup s s.pending
-abcast-hand_on setup s (Some m) = record { shape = AbHandsOn s.next m refl }
+abcast-hand_on setup s (Some m) = record { holds = AbHandsOn s.next m refl }
 
 abcast-drain : (setup : Setup) (s : AbcastState) → Row (AbSays setup) (ab.abcast_drain setup s)
 abcast-drain setup s =
@@ -213,7 +202,7 @@ abcast-drain setup s =
     abcast-hand_on setup (record s { next = next }) (message_of s.decisions next)
 
 abcast-mark : (setup : Setup) (s : AbcastState) (m : Option Message) → Row (AbSays setup) (ab.abcast_mark setup s m)
-abcast-mark setup s None = record { shape = AbNothing tt }
+abcast-mark setup s None = record { holds = AbNothing tt }
 abcast-mark setup s (Some m) = abcast-drain setup (ab.abcast_marked s m)
 
 abcast-heard : (setup : Setup) (s : AbcastState) (m : Message) → Row (AbSays setup) (ab.abcast_heard setup s m)
@@ -223,15 +212,15 @@ abcast-heard setup s m =
 
 pub abcast-says : (setup : Setup) (s : AbcastState) (m : Moment) → Row (AbSays setup) (ab.abcast_step setup s m)
 abcast-says setup s (Moment.Begin handler arg) =
-    either (AbSays setup) (handler == 0) (record { shape = AbCasts (message_at arg 0) refl })
-    (either (AbSays setup) (handler == 1) (either (AbSays setup) (word arg 2 == 0) (abcast-heard setup s (message_at arg 3)) (record { shape = AbNothing tt }))
-    (either (AbSays setup) (handler == 2) (abcast-drain setup (record s { decisions = with_message s.decisions (word arg 0) (message_at arg 1) })) (record { shape = AbNothing tt })))
+    either (AbSays setup) (handler == 0) (record { holds = AbCasts (message_at arg 0) refl })
+    (either (AbSays setup) (handler == 1) (either (AbSays setup) (word arg 2 == 0) (abcast-heard setup s (message_at arg 3)) (record { holds = AbNothing tt }))
+    (either (AbSays setup) (handler == 2) (abcast-drain setup (record s { decisions = with_message s.decisions (word arg 0) (message_at arg 1) })) (record { holds = AbNothing tt })))
 abcast-says setup s (Moment.Resume handler frame reply) =
     either (AbSays setup) (handler == 2)
     (either (AbSays setup) (word frame 0 == 1)
     (either (AbSays setup) (s.next == word frame 1) (abcast-mark setup s (message_of s.decisions s.next)) (abcast-drain setup s))
-    (record { shape = AbNothing tt }))
-    (record { shape = AbNothing tt })
+    (record { holds = AbNothing tt }))
+    (record { holds = AbNothing tt })
 
 -- repl
 abbrev ReAsks : Setup → Outcome → Type 0
@@ -242,39 +231,39 @@ repl-hand_on setup epoch None = Quiet tt
 repl-hand_on setup epoch (Some m) = either_outcome (ReAsks setup) (re.is_change setup m.kind m.value) (Quiet tt) (Quiet tt)
 
 repl-drain : (setup : Setup) (s : ReplState) → Row (ReAsks setup) (re.repl_drain setup s)
-repl-drain setup s = record { shape = repl-hand_on setup s.epoch (re.first_of s.epoch (filter (re.is_to_come s) s.early)) }
+repl-drain setup s = record { holds = repl-hand_on setup s.epoch (re.first_of s.epoch (filter (re.is_to_come s) s.early)) }
 
 repl-recast : (setup : Setup) (epoch : ℕ) (own : Option Own) → ReAsks setup (re.repl_recast setup epoch own)
 repl-recast setup epoch None = Quiet tt
 repl-recast setup epoch (Some own) = AtPort 0 (inl refl) _ _ refl
 
 repl-go_on : (setup : Setup) (s : ReplState) (x : ℕ) → Row (ReAsks setup) (re.repl_go_on setup s x)
-repl-go_on setup s x = record { shape = repl-recast setup s.epoch (find (λ (own : Own). nat_lt x own.number) s.mine) }
+repl-go_on setup s x = record { holds = repl-recast setup s.epoch (find (λ (own : Own). nat_lt x own.number) s.mine) }
 
 repl-cast : (setup : Setup) (s : ReplState) (kind value : ℕ) → Row (ReAsks setup) (re.repl_cast setup s kind value)
 repl-cast setup s kind value =
-    either (ReAsks setup) (nat_lt 2 kind || ((kind == 1) && not (re.is_change setup kind value))) (record { shape = Quiet tt })
-    (record { shape = either_outcome (ReAsks setup) (s.hold == 0) (repl-recast setup s.epoch (Some _)) (Quiet tt) })
+    either (ReAsks setup) (nat_lt 2 kind || ((kind == 1) && not (re.is_change setup kind value))) (record { holds = Quiet tt })
+    (record { holds = either_outcome (ReAsks setup) (s.hold == 0) (repl-recast setup s.epoch (Some _)) (Quiet tt) })
 
 repl-marked : (setup : Setup) (s : ReplState) (x : ℕ) (m : Option Message) → Row (ReAsks setup) (re.repl_marked setup s x m)
-repl-marked setup s x None = record { shape = Quiet tt }
+repl-marked setup s x None = record { holds = Quiet tt }
 repl-marked setup s x (Some m) =
     let marked : ReplState = re.repl_mark setup s m in
     either (ReAsks setup) (x == 0) (repl-drain setup marked)
-    (either (ReAsks setup) (x == 1) (repl-drain setup (record marked { epoch = up s.epoch; hold = 1 })) (record { shape = AtPort 1 (inr (inl refl)) _ _ refl }))
+    (either (ReAsks setup) (x == 1) (repl-drain setup (record marked { epoch = up s.epoch; hold = 1 })) (record { holds = AtPort 1 (inr (inl refl)) _ _ refl }))
 
 pub repl-asks : (setup : Setup) (s : ReplState) (m : Moment) → Row (ReAsks setup) (re.repl_step setup s m)
 repl-asks setup s (Moment.Begin handler arg) =
     either (ReAsks setup) (handler == 0) (repl-cast setup s (word arg 0) (word arg 1))
     (either (ReAsks setup) (handler == 1) (repl-drain setup _)
     (either (ReAsks setup) (handler == 2)
-    (either (ReAsks setup) (word arg 0 == s.epoch) (repl-go_on setup (record s { hold = 0 }) 0) (record { shape = Quiet tt })) (record { shape = Quiet tt })))
+    (either (ReAsks setup) (word arg 0 == s.epoch) (repl-go_on setup (record s { hold = 0 }) 0) (record { holds = Quiet tt })) (record { holds = Quiet tt })))
 repl-asks setup s (Moment.Resume handler frame reply) =
-    either (ReAsks setup) (handler == 0) (record { shape = Quiet tt })
+    either (ReAsks setup) (handler == 0) (record { holds = Quiet tt })
     (either (ReAsks setup) (handler == 1)
     (either (ReAsks setup) (nat_lt (word frame 0) 3) (repl-marked setup s (word frame 0) (re.first_of s.epoch s.early))
-    (either (ReAsks setup) (word frame 0 == 3) (repl-drain setup s) (record { shape = Quiet tt })))
-    (either (ReAsks setup) (handler == 2) (repl-go_on setup s (word frame 0)) (record { shape = Quiet tt })))
+    (either (ReAsks setup) (word frame 0 == 3) (repl-drain setup s) (record { holds = Quiet tt })))
+    (either (ReAsks setup) (handler == 2) (repl-go_on setup s (word frame 0)) (record { holds = Quiet tt })))
 
 -- cons: it tells, announces, and decides
 pub data ConsSays (setup : Setup) (o : Outcome) : Type 0 where
@@ -288,54 +277,54 @@ tells setup to tag b ts m frame = ConsTells to tag b ts m frame refl
 
 cons-propose : (setup : Setup) (s : ConsState) (i : ℕ) (m : Message) → Row (ConsSays setup) (co.cons_propose setup s i m)
 cons-propose setup s i m =
-    either (ConsSays setup) (is_some (co.instance_of s.instances i)) (record { shape = ConsNothing tt }) (record { shape = tells setup _ _ _ _ _ [] })
+    either (ConsSays setup) (is_some (co.instance_of s.instances i)) (record { holds = ConsNothing tt }) (record { holds = tells setup _ _ _ _ _ [] })
 
 cons-proposed : (setup : Setup) (s : ConsState) (b : Ballot) (m : Message) → Row (ConsSays setup) (co.cons_proposed setup s b m)
 cons-proposed setup s b m =
-    either (ConsSays setup) ((b.round == 0) || nat_lt b.round (co.round_of (co.instance_of s.instances b.instance))) (record { shape = ConsNothing tt })
-    (record { shape = tells setup _ _ _ _ _ [] })
+    either (ConsSays setup) ((b.round == 0) || nat_lt b.round (co.round_of (co.instance_of s.instances b.instance))) (record { holds = ConsNothing tt })
+    (record { holds = tells setup _ _ _ _ _ [] })
 
 round-proposes : (setup : Setup) (b : Ballot) (e : Estimate) (r : Round) → Row (ConsSays setup) (co.round_proposes setup b e r)
 round-proposes setup b e r =
-    either (ConsSays setup) (co.is_to_propose setup r) (record { shape = tells setup _ _ _ _ _ [] }) (record { shape = ConsNothing tt })
+    either (ConsSays setup) (co.is_to_propose setup r) (record { holds = tells setup _ _ _ _ _ [] }) (record { holds = ConsNothing tt })
 
 round-estimated : (setup : Setup) (b : Ballot) (e : Estimate) (r : Round) → Row (ConsSays setup) (co.round_estimated setup b e r)
 round-estimated setup b e r =
-    either (ConsSays setup) (co.is_kept r.estimates e.sender) (record { shape = ConsNothing tt }) (round-proposes setup b e (co.with_estimate r e))
+    either (ConsSays setup) (co.is_kept r.estimates e.sender) (record { holds = ConsNothing tt }) (round-proposes setup b e (co.with_estimate r e))
 
 cons-estimated : (setup : Setup) (s : ConsState) (b : Ballot) (e : Estimate) → Row (ConsSays setup) (co.cons_estimated setup s b e)
 cons-estimated setup s b e =
-    either (ConsSays setup) (not (co.coordinates setup b)) (record { shape = ConsNothing tt })
-    (record { shape = (round-estimated setup b e (co.round_at s.rounds b)).shape })
+    either (ConsSays setup) (not (co.coordinates setup b)) (record { holds = ConsNothing tt })
+    (record { holds = (round-estimated setup b e (co.round_at s.rounds b)).holds })
 
 round-acknowledged : (setup : Setup) (b : Ballot) (sender : ℕ) (r : Round) (m : Option Message) → Row (ConsSays setup) (co.round_acknowledged setup b sender r m)
-round-acknowledged setup b sender r None = record { shape = ConsNothing tt }
+round-acknowledged setup b sender r None = record { holds = ConsNothing tt }
 round-acknowledged setup b sender r (Some m) =
-    either (ConsSays setup) (co.is_to_announce setup (co.with_acknowledged r sender)) (record { shape = ConsAnnounces b.instance m refl }) (record { shape = ConsNothing tt })
+    either (ConsSays setup) (co.is_to_announce setup (co.with_acknowledged r sender)) (record { holds = ConsAnnounces b.instance m refl }) (record { holds = ConsNothing tt })
 
 cons-counted : (setup : Setup) (s : ConsState) (b : Ballot) (sender : ℕ) (r : Option Round) → Row (ConsSays setup) (co.cons_counted setup s b sender r)
-cons-counted setup s b sender None = record { shape = ConsNothing tt }
-cons-counted setup s b sender (Some r) = record { shape = (round-acknowledged setup b sender r r.proposal).shape }
+cons-counted setup s b sender None = record { holds = ConsNothing tt }
+cons-counted setup s b sender (Some r) = record { holds = (round-acknowledged setup b sender r r.proposal).holds }
 
 cons-acknowledged : (setup : Setup) (s : ConsState) (b : Ballot) (sender : ℕ) → Row (ConsSays setup) (co.cons_acknowledged setup s b sender)
 cons-acknowledged setup s b sender =
-    either (ConsSays setup) (not (co.coordinates setup b)) (record { shape = ConsNothing tt })
+    either (ConsSays setup) (not (co.coordinates setup b)) (record { holds = ConsNothing tt })
     (cons-counted setup s b sender (co.found_round s.rounds b))
 
 cons-decide : (setup : Setup) (s : ConsState) (i : ℕ) (m : Message) → Row (ConsSays setup) (co.cons_decide setup s i m)
 cons-decide setup s i m =
-    either (ConsSays setup) (is_some (message_of s.decisions i)) (record { shape = ConsNothing tt }) (record { shape = ConsDecides i m refl })
+    either (ConsSays setup) (is_some (message_of s.decisions i)) (record { holds = ConsNothing tt }) (record { holds = ConsDecides i m refl })
 
 cons-next_round : (setup : Setup) (s : ConsState) (i : ℕ) (frame : List ℕ) (x : Option Instance) → Row (ConsSays setup) (co.cons_next_round setup s i frame x)
-cons-next_round setup s i frame None = record { shape = ConsNothing tt }
-cons-next_round setup s i frame (Some x) = record { shape = tells setup _ _ _ _ _ frame }
+cons-next_round setup s i frame None = record { holds = ConsNothing tt }
+cons-next_round setup s i frame (Some x) = record { holds = tells setup _ _ _ _ _ frame }
 
 cons-advance : (setup : Setup) (s : ConsState) (i : ℕ) → Row (ConsSays setup) (co.cons_advance setup s i)
 cons-advance setup s i =
-    either (ConsSays setup) (is_some (message_of s.decisions i)) (record { shape = ConsNothing tt }) (cons-next_round setup s i [] (co.instance_of s.instances i))
+    either (ConsSays setup) (is_some (message_of s.decisions i)) (record { holds = ConsNothing tt }) (cons-next_round setup s i [] (co.instance_of s.instances i))
 
 cons-pass : (setup : Setup) (s : ConsState) (q : ℕ) (e : Option (ℕ × Instance)) → Row (ConsSays setup) (co.cons_pass setup s q e)
-cons-pass setup s q None = record { shape = ConsNothing tt }
+cons-pass setup s q None = record { holds = ConsNothing tt }
 cons-pass setup s q (Some e) = cons-next_round setup s e.0 (1 ∷ q ∷ e.0 ∷ []) (Some e.1)
 
 cons-suspect : (setup : Setup) (s : ConsState) (q : ℕ) (x : Option ℕ) → Row (ConsSays setup) (co.cons_suspect setup s q x)
@@ -345,50 +334,50 @@ cons-recv : (setup : Setup) (s : ConsState) (l : Letter) → Row (ConsSays setup
 cons-recv setup s l =
     either (ConsSays setup) (l.tag == 1) (cons-estimated setup s l.ballot _)
     (either (ConsSays setup) (l.tag == 2) (cons-proposed setup s l.ballot l.message)
-    (either (ConsSays setup) (l.tag == 3) (cons-acknowledged setup s l.ballot l.sender) (record { shape = ConsNothing tt })))
+    (either (ConsSays setup) (l.tag == 3) (cons-acknowledged setup s l.ballot l.sender) (record { holds = ConsNothing tt })))
 
 pub cons-says : (setup : Setup) (s : ConsState) (m : Moment) → Row (ConsSays setup) (co.cons_step setup s m)
 cons-says setup s (Moment.Begin handler arg) =
     either (ConsSays setup) (handler == 0) (cons-propose setup s (word arg 0) (message_at arg 1))
     (either (ConsSays setup) (handler == 1) (cons-recv setup s (co.letter_at arg))
     (either (ConsSays setup) (handler == 2)
-    (either (ConsSays setup) (word arg 2 == 1) (cons-decide setup s (word arg 3) (message_at arg 4)) (record { shape = ConsNothing tt }))
+    (either (ConsSays setup) (word arg 2 == 1) (cons-decide setup s (word arg 3) (message_at arg 4)) (record { holds = ConsNothing tt }))
     (either (ConsSays setup) (handler == 3) (cons-advance setup s (word arg 0))
-    (either (ConsSays setup) (handler == 4) (cons-suspect setup s (word arg 0) None) (record { shape = ConsNothing tt })))))
+    (either (ConsSays setup) (handler == 4) (cons-suspect setup s (word arg 0) None) (record { holds = ConsNothing tt })))))
 cons-says setup s (Moment.Resume handler frame reply) =
     either (ConsSays setup) (handler == 4)
-    (either (ConsSays setup) (word frame 0 == 1) (cons-suspect setup s (word frame 1) (Some (word frame 2))) (record { shape = ConsNothing tt }))
-    (record { shape = ConsNothing tt })
+    (either (ConsSays setup) (word frame 0 == 1) (cons-suspect setup s (word frame 1) (Some (word frame 2))) (record { holds = ConsNothing tt }))
+    (record { holds = ConsNothing tt })
 
 -- a step of a box, whatever its state
 pub fd-step : (setup : Setup) (s : State) (m : Moment) → FdTalks setup (kind_step Fd setup s m).1
-fd-step setup (OfFd s) m = (fd-talks setup s m).shape
+fd-step setup (OfFd s) m = (fd-talks setup s m).holds
 fd-step setup _ m = inr (Quiet tt)
 
 pub cons-step : (setup : Setup) (s : State) (m : Moment) → ConsSays setup (kind_step Cons setup s m).1
-cons-step setup (OfCons s) m = (cons-says setup s m).shape
+cons-step setup (OfCons s) m = (cons-says setup s m).holds
 cons-step setup _ m = ConsNothing tt
 
 pub seqcast-step : (setup : Setup) (s : State) (m : Moment) → SqTalks setup (kind_step Seqcast setup s m).1
-seqcast-step setup (OfSeqcast s) m = (seqcast-talks setup s m).shape
+seqcast-step setup (OfSeqcast s) m = (seqcast-talks setup s m).holds
 seqcast-step setup _ m = inr (Quiet tt)
 
 pub abcast-step : (setup : Setup) (s : State) (m : Moment) → AbSays setup (kind_step Abcast setup s m).1
-abcast-step setup (OfAbcast s) m = (abcast-says setup s m).shape
+abcast-step setup (OfAbcast s) m = (abcast-says setup s m).holds
 abcast-step setup _ m = AbNothing tt
 
 pub repl-step : (setup : Setup) (s : State) (m : Moment) → ReAsks setup (kind_step Repl setup s m).1
-repl-step setup (OfRepl s) m = (repl-asks setup s m).shape
+repl-step setup (OfRepl s) m = (repl-asks setup s m).holds
 repl-step setup _ m = Quiet tt
 
 pub views-step : (setup : Setup) (s : State) (m : Moment) → ViAsks setup (kind_step Views setup s m).1
-views-step setup (OfViews s) m = (views-asks setup s m).shape
+views-step setup (OfViews s) m = (views-asks setup s m).holds
 views-step setup _ m = Quiet tt
 
 pub link-step : (setup : Setup) (s : State) (m : Moment) → LinkShape setup m (kind_step Link setup s m).1
-link-step setup (OfLink s) m = (link-shape setup s m).shape
+link-step setup (OfLink s) m = (link-shape setup s m).holds
 link-step setup _ m = Silent tt
 
 pub rbcast-step : (setup : Setup) (s : State) (m : Moment) → RbShape setup m (kind_step Rbcast setup s m).1
-rbcast-step setup (OfRbcast s) m = (rbcast-shape setup s m).shape
+rbcast-step setup (OfRbcast s) m = (rbcast-shape setup s m).holds
 rbcast-step setup _ m = Rests tt
