@@ -1,21 +1,11 @@
 -- Seats that are taken from a list one by one, and joined into one.
-use Rattle.std.proofs.Common.{◌≡◌, ◌<◌, ◌+◌, ℕ, List, Option, Some, All, IfSome, ◌++◌, length, take, drop, [], subst, ◌∙◌, sym, ap, arith}
-use Rattle.std.specs.Prelude.{option_to_list, slice_index_or}
-use Rattle.std.proofs.lemmas.List.{take_all, append-nil}
-use Rattle.std.proofs.lemmas.List.Elements.{All-pop}
-use Rattle.std.proofs.Math.Seq.{drop-length}
+use Rattle.std.proofs.Common.{◌≡◌, ◌<◌, ◌+◌, ℕ, List, Option, All, length, ◌∙◌, sym, arith}
+use Rattle.std.specs.Prelude.{slice_index_or}
 use mathlib.Core.List.{IsPrefix}
 use Rattle.samoa_turnstile.specs.declared.turnstile.Turnstile.{Turnstile}
 use Rattle.samoa_turnstile.specs.Seats.{SeatOf, IsSameSeat, IsIdle, fixed_of, seats_of, parts_of, seen_by, hand_of}
 use Rattle.turnstile_turns.specs.Workers.{IsReady, HasWorked, HasReached, IsMember}
 use Rattle.turnstile_turns.proofs.Counting.{length-prefix}
-
-pub popped : {X : Type 0} (P : X → Type 0) (xs ys : List X) (r : Option X) (x : X) → xs ≡ ys ++ option_to_list r → r ≡ Some x → All P xs → All P ys × P x
-popped P xs ys r x is here all = let t = All-pop P xs ys r is all in (t.0, subst (λ o. IfSome o P) here t.1)
-
--- a relation holds of equal values
-pub related : {X : Type 0} (R : X → X → Type 0) (a b x y : X) → a ≡ x → b ≡ y → R a b → R x y
-related {X} R a b x y p q r = subst (λ (z : X × X). R z.0 z.1) (λ i. (p i, q i)) r
 
 module _ {V I : Type 0} (t : Turnstile V ℕ I) (old other new : SeatOf V ℕ I) (own : IsSameSeat old new) (idle : IsIdle new)
     (hand : hand_of new ≡ hand_of old) (fixed : fixed_of new ≡ fixed_of old) (seats : seats_of new ≡ seats_of old) where
@@ -50,9 +40,3 @@ module _ {V I : Type 0} (t : Turnstile V ℕ I) (w n : ℕ) (goal : Option ℕ) 
       let h' : k < length xs = omega arith in
       let e = each k d h' in
       (worked_member (slice_index_or xs k d) (slice_index_or ys k d) e.0 (all k d h'), e.1)
-
--- what a slice of a whole list leaves there
-pub written : {X : Type 0} (xs ys : List X) (n : ℕ) → length ys ≡ length xs → n ≡ length xs → take n (ys ++ drop (length ys) xs) ≡ ys
-written {X} xs ys n same whole =
-    let all : drop (length ys) xs ≡ [] = ap (λ k. drop k xs) same ∙ drop-length xs in
-    ap (λ l. take n (ys ++ l)) all ∙ (ap (take n) (append-nil ys) ∙ take_all n ys (omega arith))

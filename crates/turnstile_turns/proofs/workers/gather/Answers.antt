@@ -1,6 +1,7 @@
 use Rattle.std.proofs.Common.{rules, ◌-◌, ◌+◌, ◌≡◌, vec_len, subst}
 use Rattle.turnstile_turns.specs.Workers.{IsReady, HasReached, IsMember}
-use Rattle.turnstile_turns.proofs.Gathering.{popped, joined_ready, joined_member}
+use Rattle.samoa_turnstile.proofs.Taken.{popped}
+use Rattle.turnstile_turns.proofs.Gathering.{joined_ready, joined_member}
 use Rattle.turnstile_turns.proofs.workers.gather.Goals as goal
 
 pub loop-seat-preserved : goal.loop-seat-preserved

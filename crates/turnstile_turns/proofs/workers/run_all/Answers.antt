@@ -1,7 +1,8 @@
 use Rattle.std.proofs.Common.{rules, All, subst, sym, ◌≡◌}
 use Rattle.samoa_turnstile.specs.Seats.{fixed_of}
 use Rattle.turnstile_turns.specs.Workers.{HasReached, IsMember}
-use Rattle.turnstile_turns.proofs.Gathering.{worked_members, written}
+use Rattle.samoa_turnstile.proofs.Taken.{written}
+use Rattle.turnstile_turns.proofs.Gathering.{worked_members}
 use Rattle.turnstile_turns.proofs.workers.run_all.Goals as goal
 
 pub returns : goal.returns
