@@ -1,5 +1,5 @@
 -- When a single step is due.
-use Rattle.std.proofs.Common.{arith, ◌≡◌, ◌↔◌, ℕ, ◌-◌, ◌<◌, ◌≤◌, refl, sym, ap, subst, ◌∙◌, length, Bool, true, false, not, Option, Some, None}
+use Rattle.std.proofs.Common.{arith, ◌≡◌, ◌↔◌, ℕ, ◌-◌, ◌<◌, ◌≤◌, refl, sym, ap, ◌∙◌, length, Bool, true, false, not, Option, Some, None}
 use Rattle.samoa_model.specs.declared.handler.Moment.{Moment}
 use Rattle.samoa_model.specs.declared.ids.MicroId.{MicroId}
 use Rattle.samoa_model.specs.declared.record.Step.{Step}
@@ -64,14 +64,6 @@ not-next t k p none is = go (next_step ((state t).comp k)) refl none
     go : (next : Option (Call × Moment)) → next_step ((state t).comp k) ≡ next → next_moment ((state t).comp k) ≡ None → ⊥
     go None e none = let pair : Call × Moment = (is.call, is.moment) in let both : Some pair ≡ None = sym is.next ∙ e in cc
     go (Some next) e none = cc
-
--- an Enter is due at the microprotocol of the next handler step alone
-pub enter-at : (t : Trace) (comp p : ℕ) (b : Bool) → model.IsNextAt ((state t).comp (comp - 1)) p → (b ≡ true) ↔ ((micro : ℕ) × IsDue t (Step.Enter comp micro))
-    → (b ≡ true) ↔ IsDue t (Step.Enter comp p)
-enter-at t comp p b next test = (
-  (λ yes. let due = test.0 yes in subst (λ (q : ℕ). IsDue t (Step.Enter comp q)) (next-once t (comp - 1) due.0 p due.1.enabled.next next) due.1),
-  (λ due. test.1 (p, due)),
-)
 
 -- a computation that is out is next at its slot, and has its turn there
 pub record IsOutAt (t : Trace) (k p : ℕ) : Type 0 where
