@@ -1,9 +1,7 @@
 -- Seats that are dealt to workers, and taken back one by one.
-use Rattle.std.proofs.Common.{arith, ◌≡◌, ◌<◌, ◌+◌, ◌-◌, ℕ, List, Option, Some, None, All, IfSome, ◌++◌, length, take, drop, [], refl, subst, ◌∙◌, sym, ap}
-use Rattle.std.specs.Prelude.{option_to_list, slice_index_or}
-use Rattle.std.proofs.lemmas.List.{append-nil, take_all}
-use Rattle.std.proofs.lemmas.List.Elements.{All-pop}
-use Rattle.std.proofs.Math.Seq.{drop-length}
+use Rattle.std.proofs.Common.{arith, ◌≡◌, ◌<◌, ◌+◌, ℕ, List, Option, Some, None, All, ◌++◌, length, [], refl, subst, ◌∙◌, sym, ap}
+use Rattle.std.specs.Prelude.{slice_index_or}
+use Rattle.std.proofs.lemmas.List.{append-nil}
 use mathlib.Core.List.{IsPrefix}
 use Rattle.samoa_model.specs.declared.record.Step.{Step}
 use Rattle.samoa_invariant.specs.Runs.{IsRun, Trace}
@@ -18,18 +16,6 @@ use Rattle.samoa_core.proofs.Since.{cleared-more}
 use Rattle.samoa_kernel.specs.Boards.{BoardSeat, Finds, Shows}
 use Rattle.samoa_workers.specs.Seats.{HasWorked, IsReady}
 use Rattle.samoa_workers.specs.Members.{GoesOn, IsMember}
-
-pub popped : {X : Type 0} (P : X → Type 0) (xs ys : List X) (r : Option X) (x : X) → xs ≡ ys ++ option_to_list r → r ≡ Some x → All P xs → All P ys × P x
-popped P xs ys r x is here all = let t = All-pop P xs ys r is all in (t.0, subst (λ o. IfSome o P) here t.1)
-
-pub changed : {X : Type 0} (R : X → X → Type 0) (a b x y : X) → a ≡ x → b ≡ y → R a b → R x y
-changed {X} R a b x y p q r = subst (λ (z : X × X). R z.0 z.1) (λ i. (p i, q i)) r
-
--- what a slice of a whole list leaves there
-pub written : {X : Type 0} (xs ys : List X) (n : ℕ) → length ys ≡ length xs → n ≡ length xs → take n (ys ++ drop (length ys) xs) ≡ ys
-written {X} xs ys n same whole =
-    let all : drop (length ys) xs ≡ [] = ap (λ k. drop k xs) same ∙ drop-length xs in
-    ap (λ l. take n (ys ++ l)) all ∙ (ap (take n) (append-nil ys) ∙ take_all n ys (omega arith))
 
 module _ {B : Type 0} (board : Board B) where
   pub worked_ready : (old new : BoardSeat) → HasWorked old new → IsReady board old → IsReady board new

@@ -1,7 +1,8 @@
 use Rattle.std.proofs.Common.{rules, arith, ℕ, ◌-◌, ◌+◌, ◌<◌, ◌≡◌, refl, vec_len, subst, sym}
 use Rattle.samoa_workers.specs.Seats.{IsReady}
 use Rattle.samoa_workers.specs.Members.{IsMember}
-use Rattle.samoa_workers.proofs.Shares.{joined_member, joined_ready, popped}
+use Rattle.samoa_turnstile.proofs.Taken.{popped}
+use Rattle.samoa_workers.proofs.Shares.{joined_member, joined_ready}
 use Rattle.samoa_workers.proofs.crew.gather.Goals as goal
 
 pub loop-seat-init : goal.loop-seat-init
