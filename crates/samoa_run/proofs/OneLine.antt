@@ -1,14 +1,14 @@
 -- The compact text of a tree is one line: no byte of it is a line feed.
-use Rattle.std.proofs.Common.{◌≡◌, refl, ℕ, zero, suc, ◌<◌, ◌/◌, ◌%◌, ◌==◌, arith, Bool, true, false, cond, if◌then◌else◌, nat_lt, pos, negsuc, List, [], ◌∷◌, ◌++◌, decimal}
-use Rattle.std.specs.Char.{digit_char}
-use Rattle.json.specs.Print.{escape, escape_byte, escape_letter, quoted}
+use Rattle.std.proofs.Common.{refl, ℕ, suc, arith, Bool, true, false, pos, negsuc, List, [], ◌∷◌, ◌++◌}
+use Rattle.std.proofs.lemmas.Bool.Decides.{nat_tests}
+use Rattle.json.specs.Print.{escape, escape_byte, quoted}
 use Rattle.serde_json.specs.Data.{Num, unsigned, negative, float, Data, null, boolean, number, string, array, object, Items, no_items, item, Members, no_members, member}
 use Rattle.serde_json.specs.Written.{number_text, comma_if, compact_text, items_text, members_text}
 use Rattle.samoa_laws.proofs.text.Texts.{Lacks, decimal_lacks, lacks_append}
 
 -- a byte that is written for another is none
 byte_lacks : (x : ℕ) → Lacks 10 (escape_byte x)
-unfolding escape_byte, digit_char
+unfolding escape_byte
 byte_lacks x = grind (arith, nat_tests)
 
 escape_lacks : (s : List ℕ) → Lacks 10 (escape s)
