@@ -3,8 +3,9 @@
 
     python3 bench/steps.py ROW SIZE STEPS
 
-Three texts make a row: what builds up the state, so many times; what must come before the steps; the steps. What the
-microprotocol calls goes to a handler that does nothing. `list` as the only word lists the rows.
+A row has what builds up the state, so many times; what must come before the steps; and the steps. What the microprotocol
+calls goes to a handler that does nothing. `list` as the only word lists the rows, and a row alone tells the crate of its
+microprotocol.
 """
 import json
 import sys
@@ -33,8 +34,8 @@ def proposed(i):
 
 
 def decided(i):
-    """Instance i went all its way here."""
-    return proposed(i) + [acknowledgement(i, 1), acknowledgement(i, 2), ("decide", [0, i, 1, i, *message(i)])]
+    """Instance i is decided; this node has an estimate of its first round."""
+    return [("propose", [i, *message(i)]), estimate(i, 1), ("decide", [0, i, 1, i, *message(i)])]
 
 
 def handed_on(i):
@@ -119,5 +120,7 @@ def script(row, size, steps):
 
 if sys.argv[1:] == ["list"]:
     print("\n".join(ROWS))
+elif len(sys.argv) == 2:
+    print("samoa_" + ROWS[sys.argv[1]][0])
 else:
     print(json.dumps(script(sys.argv[1], int(sys.argv[2]), int(sys.argv[3])), separators=(",", ":")))
