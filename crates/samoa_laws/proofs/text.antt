@@ -6,6 +6,7 @@ pub mod Whole
 pub mod OwnNumbers
 pub mod Small
 pub mod Names
+pub mod Mute
 pub mod Journals
 pub mod Laws
 mod Example

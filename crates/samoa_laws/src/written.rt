@@ -63,13 +63,14 @@ pub fn reports_of_group_histories_agree()
 {}
 
 /// What is appended to a sink for a script of the group stack tells one order: `prefix` where it begins the report, `followed`
-/// where it begins the report with a text after it that tells nothing, as the lines of a journal. `at_any_status` takes it apart
-/// by status, where the report is due with one of them.
+/// where it begins the report with a text after it that tells nothing, as the lines of a journal, and `mute` where it begins a
+/// text that tells nothing. `at_any_status` takes it apart by status, where the report is due with one of them.
 pub fn what_is_appended_agrees()
     ensures prefix { (script : Script) (calls : Bool) (old new : Option (List ℕ)) → IsGroup script → IsInRange script
         → AppendsPrefix old new (report_in_full script calls) → AppendsOneOrder old new }
     ensures followed { (script : Script) (calls : Bool) (more : List ℕ) (old new : Option (List ℕ)) → IsGroup script → IsInRange script → IsMute more
         → AppendsPrefix old new (report_in_full script calls ++ more) → AppendsOneOrder old new }
+    ensures mute { (text : List ℕ) (old new : Option (List ℕ)) → IsMute text → AppendsPrefix old new text → AppendsOneOrder old new }
     ensures at_any_status { (script : Script) (due status : ℕ) (calls : Bool) (old new : Option (List ℕ)) → IsGroup script → IsInRange script
         → (status ≡ due → Appends old new (report_in_full script calls))
         → (status ≡ 5 → AppendsPrefix old new (report_in_full script calls)) → (status ≡ 6 → AppendsPrefix old new (report_in_full script calls))

@@ -3,6 +3,8 @@ pub mod Closing
 pub mod Histories
 pub mod Kept
 pub mod Obeying
+pub mod OneLine
+pub mod OneOrder
 pub mod OneWord
 pub mod Opened
 pub mod Parts

@@ -6,6 +6,8 @@ ghost use Rattle.samoa_model.specs.Cells.{need};
 ghost use Rattle.samoa_serial.specs.LimitedReport.{report_in_full};
 ghost use Rattle.samoa_ends.specs.Causes.{Rose};
 ghost use Rattle.samoa_grammar.specs.Held.{Holds};
+ghost use Rattle.samoa_laws.specs.trace.Group.{IsGroup};
+ghost use Rattle.samoa_laws.specs.text.Clause.{AppendsOneOrder};
 ghost use Rattle.samoa_micro.specs.Stocks.{HasEnough};
 ghost use Rattle.samoa_run.specs.declared.words.Order.{Order as OrderValue};
 ghost use Rattle.samoa_run.specs.Due.{run_status};
@@ -73,6 +75,12 @@ pub fn serve<R: Wait + Threads + Sync, S: Source, K: Sink, G: Gate + Sync, B: Mi
         (record { left = S.left source.old; left_after = S.left source.new; source_faults = S.faults source.old; source_faults_after = S.faults source.new; written = K.written sink.old; written_after = K.written sink.new; sink_faults = K.faults sink.old; sink_faults_after = K.faults sink.new })
         result }
 
+    // The input holds a script of the group stack. Whatever the words, at every status, what was appended to the sink tells
+    // one order: of the deliveries that it tells of any two nodes one list begins the other, and at no node are two of the
+    // same origin and number.
+    ensures one_order { (input : List ℕ) (script : ScriptValue) → S.left source.old ≡ Some input → Holds input script → IsGroup script
+        → AppendsOneOrder (K.written sink.old) (K.written sink.new) }
+
     // The words are others: the fault line, nothing is read, and no memory is taken.
     ensures usage { order_of (map string_bytes words.now) ≡ None
         → Answers 2 (codes "! usage\n") (K.written sink.old) (K.written sink.new) result }
@@ -106,6 +114,10 @@ pub fn serve_serial<S: Source, K: Sink, B: Micro>(
     ensures obeys { (order : OrderValue) → option_and_then only_serial (order_of (map string_bytes words.now)) ≡ Some order → Obeys order
         (record { left = S.left source.old; left_after = S.left source.new; source_faults = S.faults source.old; source_faults_after = S.faults source.new; written = K.written sink.old; written_after = K.written sink.new; sink_faults = K.faults sink.old; sink_faults_after = K.faults sink.new })
         result }
+
+    // The input holds a script of the group stack, as for [`serve`].
+    ensures one_order { (input : List ℕ) (script : ScriptValue) → S.left source.old ≡ Some input → Holds input script → IsGroup script
+        → AppendsOneOrder (K.written sink.old) (K.written sink.new) }
 
     ensures usage { option_and_then only_serial (order_of (map string_bytes words.now)) ≡ None
         → Answers 2 (codes "! usage\n") (K.written sink.old) (K.written sink.new) result }

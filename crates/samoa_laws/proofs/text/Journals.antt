@@ -1,13 +1,10 @@
 -- The text of a journal tells nothing: each of its lines begins with a letter that neither heads a computation nor tells a delivery.
-use Rattle.std.proofs.Common.{ℕ, refl, sym, subst, List, [], ◌∷◌, ◌++◌, length, codes, decimal}
+use Rattle.std.proofs.Common.{ℕ, refl, List, [], ◌∷◌, ◌++◌, length, codes, decimal}
 use Rattle.samoa_model.specs.declared.record.Step.{Step}
-use Rattle.samoa_serial.specs.Lists.{Each}
 use Rattle.samoa_report.specs.Steps.{journal_text, step_text, steps_text}
-use Rattle.samoa_laws.specs.text.Clause.{IsMute, IsMuteLine}
-use Rattle.samoa_laws.proofs.text.Texts.{Plain, both, line_is, literal, number, space}
-
-mute_line : (line rest : List ℕ) → Plain line → IsMuteLine line → IsMute rest → IsMute ((line ++ codes "\n") ++ rest)
-mute_line line rest plain mute more = subst (Each IsMuteLine) (sym (line_is line rest plain.lacks)) (mute, more)
+use Rattle.samoa_laws.specs.text.Clause.{IsMute}
+use Rattle.samoa_laws.proofs.text.Mute.{mute_line}
+use Rattle.samoa_laws.proofs.text.Texts.{Plain, both, literal, number, space}
 
 -- the rest of a line after its letter
 pair : (comp micro : ℕ) → Plain (codes " " ++ decimal comp ++ codes " " ++ decimal micro)

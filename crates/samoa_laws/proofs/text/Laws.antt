@@ -212,6 +212,26 @@ module _ (script : Script) (group : IsGroup script) (range : IsInRange script) w
       go (inr (inr (inl is))) = failed is
       go (inr (inr (inr is))) = memory is
 
+-- a beginning of a text that tells nothing tells nothing
+nothing_before : (ms : List (List (List ℕ))) → Begins ms [] → ms ≡ []
+nothing_before [] p = refl
+nothing_before (m ∷ ms) p = absurd (cc)
+
+pub mute_order : (text : List ℕ) (old new : Option (List ℕ)) → IsMute text → AppendsPrefix old new text → AppendsOneOrder old new
+mute_order text old new mute written =
+    let none : (v : ℕ) → stream_in written.piece v ≡ [] = λ v.
+    nothing_before (stream_in written.piece v)
+    (subst (λ (ms : List (List (List ℕ))). Begins (stream_in written.piece v) ms) (mute_tells v (codes "repl") text mute false)
+    (told_prefix v (codes "repl") written.piece text (record { rest = written.prefix.rest; is = written.prefix.whole }))) in
+    record {
+      piece = written.piece;
+      appended = written.appended;
+      told = record {
+        order = λ v u. inl (record { rest = stream_in written.piece u; is = ap (λ (ms : List (List (List ℕ))). ms ++ stream_in written.piece u) (sym (none v)) });
+        apart = λ v. subst (IsApart alike) (sym (none v)) tt;
+      };
+    }
+
 -- the same of the report of any group history
 module _ (script : Script) (range : IsInRange script) (exts : List Ext) (history : IsGroupHistory script exts) where
   pub history_comparable : (calls others : Bool) (first second : List ℕ) (v u : ℕ) → Begins first (report_of script calls exts) → Begins second (report_of script others exts)

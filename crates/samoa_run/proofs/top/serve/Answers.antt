@@ -7,6 +7,7 @@ use Rattle.samoa_run.specs.Serving.{Answers, AnswersOne}
 use Rattle.samoa_run.specs.Due.{IsOutput, has_cells, done_status, run_status}
 use Rattle.std.proofs.lemmas.Bool.{le-leb}
 use Rattle.samoa_model.specs.Cells.{need}
+use Rattle.samoa_run.proofs.OneOrder.{obeys_order, usage_order}
 use Rattle.samoa_run.proofs.Served.{the_one}
 use Rattle.samoa_run.proofs.top.serve.Goals as goal
 
@@ -18,3 +19,9 @@ returns-in-Some-clause-report g c =
     → AnswersOne (done_status order script) (IsOutput order script) (g.K.Sink.written c.args.sink.now) (g.K.Sink.written c.obey.new.sink) (number c.obey.result) in
     let S : ℕ → Type 0 = Answers (run_status script) (report_in_full script calls) (g.K.Sink.written c.args.sink.now) (g.K.Sink.written c.obey.new.sink) in
     subst S (sym c.number.ensures) (the_one (report_in_full script calls) (subst P same (c.obey.ensures.done input script left held) (le-leb (need script) cells enough)))
+
+pub returns-in-Some-clause-one_order : goal.returns-in-Some-clause-one_order
+returns-in-Some-clause-one_order g c = λ input script left held group. obeys_order input script c.obey.ensures left held group
+
+pub returns-in-None-clause-one_order : goal.returns-in-None-clause-one_order
+returns-in-None-clause-one_order g c = λ input script left held group. usage_order input script c.refuse_words.ensures.written held group

@@ -1,0 +1,96 @@
+-- What is written for a script of the group stack tells one order, whatever is ordered, and at every status.
+use Rattle.std.proofs.Common.{◌≡◌, ◌⊎◌, refl, sym, ap, subst, ◌∙◌, ℕ, Bool, true, false, List, [], ◌∷◌, ◌++◌, append_assoc, append-nil, codes, decimal, Option, Some, inl, inr}
+use Rattle.std.specs.Io.KnownBytes.{Appends}
+use Rattle.samoa_ends.specs.Pieces.{AppendsPrefix}
+use Rattle.samoa_model.specs.Cells.{need}
+use Rattle.samoa_model.specs.Range.{IsInRange}
+use Rattle.samoa_model.specs.declared.script.Script.{Script}
+use Rattle.samoa_serial.specs.LimitedReport.{report_in_full}
+use Rattle.samoa_grammar.specs.Held.{Holds}
+use Rattle.samoa_print.specs.Canonical.{tree_of}
+use Rattle.samoa_script.proofs.Held.{held_valid}
+use Rattle.serde_json.specs.Written.{compact_text}
+use Rattle.samoa_laws.specs.trace.Group.{IsGroup}
+use Rattle.samoa_laws.specs.text.Clause.{AppendsOneOrder, IsMute}
+use Rattle.samoa_laws.proofs.text.Laws.{appends_order_then, mute_order}
+use Rattle.samoa_laws.proofs.text.Mute.{mute_begun}
+use Rattle.samoa_laws.proofs.text.Texts.{Plain, both, literal, number as number_plain, space}
+use Rattle.samoa_run.specs.declared.words.Order.{Order}
+use Rattle.samoa_run.specs.declared.words.Order.TheVariants.{Run, Serial, Check}
+use Rattle.samoa_run.specs.Due.{IsOutput, canonical_text, done_status, few_cells, has_cells, turned_away_line}
+use Rattle.samoa_run.specs.Serving.{Answers, AnswersOne, Ends, IsDueOrFailed, Obeys}
+use Rattle.samoa_run.specs.Statuses.{number}
+use Rattle.samoa_run.proofs.OneLine.{compact_lacks}
+use Rattle.samoa_run.proofs.Served.{one_of}
+
+-- a text is a report of the script and then a text that tells nothing, or it tells nothing
+data TellsAtMost (script : Script) (text : List ℕ) : Type 0 where
+  report_then : (calls : Bool) (more : List ℕ) → IsMute more → text ≡ report_in_full script calls ++ more → TellsAtMost script text
+  nothing : IsMute text → TellsAtMost script text
+
+the_report : (script : Script) (calls : Bool) (text : List ℕ) → text ≡ report_in_full script calls → TellsAtMost script text
+the_report script calls text is = report_then calls [] tt (is ∙ sym (append-nil (report_in_full script calls)))
+
+-- ---- from what was appended
+module _ (script : Script) (group : IsGroup script) (range : IsInRange script) (old new : Option (List ℕ)) where
+  prefix_order : (text : List ℕ) → TellsAtMost script text → AppendsPrefix old new text → AppendsOneOrder old new
+  prefix_order text (report_then calls more mute is) written =
+      appends_order_then script group range calls more old new mute (subst (λ (t : List ℕ). AppendsPrefix old new t) is written)
+  prefix_order text (nothing mute) written = mute_order text old new mute written
+
+  whole_order : (text : List ℕ) → TellsAtMost script text → Appends old new text → AppendsOneOrder old new
+  whole_order text tells written = prefix_order text tells (record { piece = text; appended = written; prefix = record { rest = []; whole = sym (append-nil text) } })
+
+  answers_order : {due status : ℕ} {meant : List ℕ → Type 0} → ((text : List ℕ) → meant text → TellsAtMost script text)
+      → AnswersOne due meant old new status → AppendsOneOrder old new
+  answers_order {due} {status} tells answers = go answers.no_other
+    where
+      go : IsDueOrFailed due status → AppendsOneOrder old new
+      go (inl is) = let wrote = answers.whole is in whole_order wrote.text (tells wrote.text wrote.is_meant) wrote.all
+      go (inr (inl is)) = whole_order [] (nothing tt) (answers.source_failed is)
+      go (inr (inr (inl is))) = let began = answers.sink_failed is in prefix_order began.text (tells began.text began.is_meant) began.part
+      go (inr (inr (inr is))) = let began = answers.memory is in prefix_order began.text (tells began.text began.is_meant) began.part
+
+-- ---- the texts that are written
+cells_mute : (cells needed : ℕ) → IsMute (few_cells cells needed)
+cells_mute cells needed =
+    let rest : List ℕ = codes " cells " ++ (decimal cells ++ (codes " " ++ decimal needed)) in
+    let plain : Plain (33 ∷ rest) = both (literal (codes "! cells ") refl) (both (number_plain cells) (both space (number_plain needed))) in
+    let same : 33 ∷ (rest ++ codes "\n") ≡ few_cells cells needed =
+    ap (λ (t : List ℕ). codes "! cells " ++ t) (append_assoc (decimal cells) (codes " " ++ decimal needed) (codes "\n")) in
+    subst IsMute same (mute_begun 33 rest (refl, (refl, (refl, refl))) plain)
+
+canonical_mute : (script : Script) → IsMute (canonical_text script)
+unfolding tree_of
+canonical_mute script = mute_begun 123 _ (refl, (refl, (refl, refl))) (record { lacks = compact_lacks (tree_of script) })
+
+turned_away_mute : (order : Order) (script : Script) → IsMute (turned_away_line order script)
+turned_away_mute (Run cells calls) script = cells_mute cells (need script)
+turned_away_mute (Serial calls) script = tt
+turned_away_mute Check script = tt
+
+output_tells : (order : Order) (script : Script) (text : List ℕ) → IsOutput order script text → TellsAtMost script text
+output_tells (Run cells calls) script text is = the_report script calls text is
+output_tells (Serial calls) script text is = the_report script calls text is
+output_tells Check script text is = nothing (subst IsMute (sym is) (canonical_mute script))
+
+-- ---- the clauses
+pub obeys_order : {order : Order} {ends : Ends} {status : ℕ} (input : List ℕ) (script : Script) → Obeys order ends status → ends.left ≡ Some input → Holds input script
+    → IsGroup script → AppendsOneOrder ends.written ends.written_after
+obeys_order {order} {ends} {status} input script obeys left held group = go (has_cells order script) refl
+  where
+    range : IsInRange script
+    range = (held_valid input script held).in_range
+
+    go : (b : Bool) → has_cells order script ≡ b → AppendsOneOrder ends.written ends.written_after
+    go true can = answers_order script group range ends.written ends.written_after (output_tells order script) (obeys.done input script left held can)
+    go false can =
+        answers_order script group range ends.written ends.written_after (λ text is. nothing (subst IsMute (sym is) (turned_away_mute order script)))
+        (one_of (turned_away_line order script) refl (obeys.turned_away input script left held can))
+
+pub usage_order : {status : ℕ} {old new : Option (List ℕ)} (input : List ℕ) (script : Script) → Answers 2 (codes "! usage\n") old new status → Holds input script
+    → IsGroup script → AppendsOneOrder old new
+usage_order {status} {old} {new} input script answers held group =
+    let mute : IsMute (codes "! usage\n") = mute_begun 33 (codes " usage") (refl, (refl, (refl, refl))) (literal (codes "! usage") refl) in
+    answers_order script group (held_valid input script held).in_range old new (λ text is. nothing (subst IsMute (sym is) mute))
+    (one_of (codes "! usage\n") refl answers)
