@@ -1,5 +1,5 @@
 -- What is written for a script of the group stack tells one order, whatever is ordered, and at every status.
-use Rattle.std.proofs.Common.{◌≡◌, ◌⊎◌, refl, sym, ap, subst, ◌∙◌, ℕ, Bool, true, false, List, [], ◌∷◌, ◌++◌, append_assoc, append-nil, codes, decimal, Option, Some, inl, inr}
+use Rattle.std.proofs.Common.{◌≡◌, refl, sym, ap, subst, ◌∙◌, ℕ, Bool, true, false, List, [], ◌∷◌, ◌++◌, append_assoc, append-nil, codes, decimal, Option, Some, inl, inr}
 use Rattle.std.specs.Io.KnownBytes.{Appends}
 use Rattle.samoa_ends.specs.Pieces.{AppendsPrefix}
 use Rattle.samoa_model.specs.Cells.{need}
@@ -9,7 +9,8 @@ use Rattle.samoa_serial.specs.LimitedReport.{report_in_full}
 use Rattle.samoa_grammar.specs.Held.{Holds}
 use Rattle.samoa_print.specs.Canonical.{tree_of}
 use Rattle.samoa_script.proofs.Held.{held_valid}
-use Rattle.serde_json.specs.Written.{compact_text}
+use Rattle.serde_json.specs.Data.{Data, object, Members}
+use Rattle.serde_json.specs.Written.{compact_text, members_text}
 use Rattle.samoa_laws.specs.trace.Group.{IsGroup}
 use Rattle.samoa_laws.specs.text.Clause.{AppendsOneOrder, IsMute}
 use Rattle.samoa_laws.proofs.text.Laws.{appends_order_then, mute_order}
@@ -17,9 +18,8 @@ use Rattle.samoa_laws.proofs.text.Mute.{mute_begun}
 use Rattle.samoa_laws.proofs.text.Texts.{Plain, both, literal, number as number_plain, space}
 use Rattle.samoa_run.specs.declared.words.Order.{Order}
 use Rattle.samoa_run.specs.declared.words.Order.TheVariants.{Run, Serial, Check}
-use Rattle.samoa_run.specs.Due.{IsOutput, canonical_text, done_status, few_cells, has_cells, turned_away_line}
+use Rattle.samoa_run.specs.Due.{IsOutput, canonical_text, few_cells, has_cells, turned_away_line}
 use Rattle.samoa_run.specs.Serving.{Answers, AnswersOne, Ends, IsDueOrFailed, Obeys}
-use Rattle.samoa_run.specs.Statuses.{number}
 use Rattle.samoa_run.proofs.OneLine.{compact_lacks}
 use Rattle.samoa_run.proofs.Served.{one_of}
 
@@ -51,6 +51,9 @@ module _ (script : Script) (group : IsGroup script) (range : IsInRange script) (
       go (inr (inr (inl is))) = let began = answers.sink_failed is in prefix_order began.text (tells began.text began.is_meant) began.part
       go (inr (inr (inr is))) = let began = answers.memory is in prefix_order began.text (tells began.text began.is_meant) began.part
 
+  mute_answers_order : {due status : ℕ} (text : List ℕ) → IsMute text → Answers due text old new status → AppendsOneOrder old new
+  mute_answers_order text mute answers = answers_order {meant = λ (t : List ℕ). t ≡ text} (λ t is. nothing (subst IsMute (sym is) mute)) (one_of text refl answers)
+
 -- ---- the texts that are written
 cells_mute : (cells needed : ℕ) → IsMute (few_cells cells needed)
 cells_mute cells needed =
@@ -60,9 +63,18 @@ cells_mute cells needed =
     ap (λ (t : List ℕ). codes "! cells " ++ t) (append_assoc (decimal cells) (codes " " ++ decimal needed) (codes "\n")) in
     subst IsMute same (mute_begun 33 rest (refl, (refl, (refl, refl))) plain)
 
-canonical_mute : (script : Script) → IsMute (canonical_text script)
+object_mute : (ms : Members) → IsMute (compact_text (object ms) ++ codes "\n")
+object_mute ms = mute_begun 123 (members_text false ms) (refl, (refl, (refl, refl))) (record { lacks = compact_lacks (object ms) })
+
+-- a script's tree is an object
+members_of : (script : Script) → (ms : Members) × (tree_of script ≡ object ms)
 unfolding tree_of
-canonical_mute script = mute_begun 123 _ (refl, (refl, (refl, refl))) (record { lacks = compact_lacks (tree_of script) })
+members_of script = (_, refl)
+
+canonical_mute : (script : Script) → IsMute (canonical_text script)
+canonical_mute script =
+    let found = members_of script in
+    subst (λ (d : Data). IsMute (compact_text d ++ codes "\n")) (sym found.1) (object_mute found.0)
 
 turned_away_mute : (order : Order) (script : Script) → IsMute (turned_away_line order script)
 turned_away_mute (Run cells calls) script = cells_mute cells (need script)
@@ -85,12 +97,11 @@ obeys_order {order} {ends} {status} input script obeys left held group = go (has
     go : (b : Bool) → has_cells order script ≡ b → AppendsOneOrder ends.written ends.written_after
     go true can = answers_order script group range ends.written ends.written_after (output_tells order script) (obeys.done input script left held can)
     go false can =
-        answers_order script group range ends.written ends.written_after (λ text is. nothing (subst IsMute (sym is) (turned_away_mute order script)))
-        (one_of (turned_away_line order script) refl (obeys.turned_away input script left held can))
+        mute_answers_order script group range ends.written ends.written_after (turned_away_line order script) (turned_away_mute order script)
+        (obeys.turned_away input script left held can)
 
 pub usage_order : {status : ℕ} {old new : Option (List ℕ)} (input : List ℕ) (script : Script) → Answers 2 (codes "! usage\n") old new status → Holds input script
     → IsGroup script → AppendsOneOrder old new
 usage_order {status} {old} {new} input script answers held group =
     let mute : IsMute (codes "! usage\n") = mute_begun 33 (codes " usage") (refl, (refl, (refl, refl))) (literal (codes "! usage") refl) in
-    answers_order script group (held_valid input script held).in_range old new (λ text is. nothing (subst IsMute (sym is) mute))
-    (one_of (codes "! usage\n") refl answers)
+    mute_answers_order script group (held_valid input script held).in_range old new (codes "! usage\n") mute answers

@@ -21,5 +21,5 @@ returns-in-Some-Serial-clause-report g c =
 pub returns-in-Some-Serial-clause-one_order : goal.returns-in-Some-Serial-clause-one_order
 returns-in-Some-Serial-clause-one_order g c = λ input script left held group. obeys_order input script c.obey.ensures left held group
 
-pub returns-clause-one_order : goal.returns-clause-one_order
-returns-clause-one_order g c = λ input script left held group. usage_order input script c.refuse_words.ensures.written held group
+pub returns-in_default-clause-one_order : goal.returns-in_default-clause-one_order
+returns-in_default-clause-one_order g c = λ input script left held group. usage_order input script c.refuse_words.ensures.written held group
