@@ -14,6 +14,7 @@ mod scans;
 mod sent;
 mod single;
 mod slots;
+mod tray;
 mod turn;
 
 pub use kernel::Core;

@@ -12,8 +12,9 @@ ghost use Rattle.samoa_core.specs.Turns.{HasCome, IsAway, IsNext, box_of};
 
 use crate::kernel::Core;
 use crate::running::take_outcome_at;
+use crate::tray::Tray;
 use crate::turn::{Ran, Turn};
-use samoa_micro::{Held, Micro};
+use samoa_micro::Micro;
 use samoa_model::{MicroId, Moment, Outcome, Step};
 
 impl<B: Micro> Core<B> {
@@ -75,7 +76,7 @@ impl<B: Micro> Core<B> {
     }
 
     /// Takes the microprotocol of a handler step that is due out of its slot.
-    fn go_out(&mut self, comp: u32, micro: u32) -> Held<B>
+    fn go_out(&mut self, comp: u32, micro: u32) -> Tray<B>
         requires due { IsDue self.old (Step.Enter comp micro) }
         requires kept { cleared_comps self.old < comp }
         requires within { micro < length self.old.script.micros }
@@ -90,7 +91,7 @@ impl<B: Micro> Core<B> {
     }
 
     /// Puts the microprotocol of a handler step that is out back, and lets its outcome take effect.
-    fn go_home(&mut self, comp: u32, micro: u32, held: Held<B>, outcome: Outcome)
+    fn go_home(&mut self, comp: u32, micro: u32, held: Tray<B>, outcome: Outcome)
         requires due { IsDue self.old (Step.Leave comp) }
         requires come { HasCome self.old comp micro held outcome }
         requires kept { cleared_comps self.old < comp }
@@ -113,7 +114,7 @@ impl<B: Micro> Core<B> {
     }
 
     /// Puts the microprotocol of a handler step that is out back as it was.
-    fn go_back(&mut self, comp: u32, micro: u32, held: Held<B>)
+    fn go_back(&mut self, comp: u32, micro: u32, held: Tray<B>)
         requires due { IsDue self.old (Step.Abandon comp) }
         requires next { (moment : Moment) × IsNext self.old (record { comp = comp; micro = micro; moment = moment; before = held }) }
         requires kept { cleared_comps self.old < comp }

@@ -5,7 +5,8 @@ ghost use Rattle.samoa_serial.specs.Kinds.{Seen, set_up_as, shown};
 ghost use Rattle.samoa_micro.specs.Covers.{Covers, count_of};
 ghost use Rattle.samoa_core.specs.Slots.{setup_with, row_of, rows_of};
 
-use samoa_micro::{Held, Micro, Stock};
+use crate::tray::Tray;
+use samoa_micro::{Micro, Stock};
 use samoa_model::{
     CodeDef, Copied, Instr, Kind, Listed, MicroDef, NoMemory, NodeId, Script, Setup, Words,
 };
@@ -16,7 +17,7 @@ use std::marker::Model;
 #[derive(Drop)]
 pub(crate) struct Slots<B: Micro> {
     micros: usize,
-    boxes: Vec<Option<Held<B>>>,
+    boxes: Vec<Option<Tray<B>>>,
 }
 
 impl<B: Micro> Model for Slots<B> {
@@ -49,7 +50,7 @@ impl<B: Micro> Slots<B> {
     }
 
     /// Takes the microprotocol of a slot out.
-    pub(crate) fn take(&mut self, node: NodeId, micro: u32) -> Held<B>
+    pub(crate) fn take(&mut self, node: NodeId, micro: u32) -> Tray<B>
         requires { (seen : Seen) × (slice_get self.old.boxes (node.0 * self.old.micros + micro) ≡ Some (Some seen)) }
         ensures held { slice_get self.old.boxes (node.0 * self.old.micros + micro) ≡ Some (Some result) }
         ensures out { self.new ≡ record self.old { boxes = set self.old.boxes (node.0 * self.old.micros + micro) None } }
@@ -59,7 +60,7 @@ impl<B: Micro> Slots<B> {
     }
 
     /// Puts a microprotocol into its slot.
-    pub(crate) fn put(&mut self, node: NodeId, micro: u32, held: Held<B>)
+    pub(crate) fn put(&mut self, node: NodeId, micro: u32, held: Tray<B>)
         requires { node.0 * self.old.micros + micro < length self.old.boxes }
         ensures { self.new ≡ record self.old { boxes = set self.old.boxes (node.0 * self.old.micros + micro) (Some held) } }
     {
@@ -95,7 +96,7 @@ fn fill_node<B: Micro>(
     script: &Script,
     node: NodeId,
     stock: &mut Stock<B>,
-    boxes: &mut Vec<Option<Held<B>>>,
+    boxes: &mut Vec<Option<Tray<B>>>,
 ) -> Result<(), NoMemory>
     requires { (kind : Kind) → count_by (λ micro. ⟦<Kind as PartialEq>⟧.eq micro.kind kind) script.now.micros ≤ count_of stock.old kind }
     ensures filled { OnOk result (boxes.new.items ≡ boxes.old.items ++ row_of script.now node.0) }
@@ -114,12 +115,12 @@ fn drawn<B: Micro>(
     stock: &mut Stock<B>,
     kind: Kind,
     setup: &Setup,
-) -> Result<Held<B>, NoMemory>
+) -> Result<Tray<B>, NoMemory>
     requires { 0 < count_of stock.old kind }
     ensures held { IfOk result (λ held. held ≡ set_up_as kind setup.now) }
     ensures counts { (other : Kind) → count_of stock.old other ≡ count_of stock.new other + (if ⟦<Kind as PartialEq>⟧.eq kind other then 1 else 0) }
 {
-    let mut held = Held::new(stock.draw(kind).unwrap());
+    let mut held = Tray::new(alloc, stock.draw(kind).unwrap())?;
     held.set_up(alloc, setup)?;
     Ok(held)
 }

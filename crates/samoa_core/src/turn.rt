@@ -2,6 +2,7 @@
 ghost use Rattle.std.specs.Prelude.{◌≡◌, false, IfOk, IfErr};
 ghost use Rattle.samoa_serial.specs.Kinds.{after_step, outcome_of};
 
+use crate::tray::{Load, Tray};
 use samoa_micro::{Held, Micro};
 use samoa_model::{Moment, NoMemory, Outcome};
 use std::alloc::Global;
@@ -13,8 +14,7 @@ use std::snapshot::Snapshot;
 pub struct Turn<B: Micro> {
     comp: u32,
     micro: u32,
-    moment: Moment,
-    held: Held<B>,
+    load: Box<Load<B>>,
 }
 
 impl<B: Micro> Model for Turn<B> {
@@ -23,9 +23,9 @@ impl<B: Micro> Model for Turn<B> {
 
     ghost Value = { Going };
 
-    ghost view = { λ t. record { comp = t.comp; micro = t.micro; moment = t.moment; before = t.held } };
+    ghost view = { λ t. record { comp = t.comp; micro = t.micro; moment = t.load.value.moment; before = t.load.value.held } };
 
-    ghost invariant = { λ t. t.held.fresh ≡ false };
+    ghost invariant = { λ t. t.load.value.held.fresh ≡ false };
 }
 
 /// A handler step that was made: its microprotocol is still out, and holds its outcome. It can't be dropped, so that it
@@ -33,10 +33,8 @@ impl<B: Micro> Model for Turn<B> {
 pub struct Ran<B: Micro> {
     comp: u32,
     micro: u32,
-    moment: Moment,
     before: Snapshot<Held<B>>,
-    held: Held<B>,
-    outcome: Outcome,
+    load: Box<Load<B>>,
 }
 
 impl<B: Micro> Model for Ran<B> {
@@ -46,22 +44,19 @@ impl<B: Micro> Model for Ran<B> {
 
     ghost Value = { Going };
 
-    ghost view = { λ r. record { comp = r.comp; micro = r.micro; moment = r.moment; before = r.before.value } };
+    ghost view = { λ r. record { comp = r.comp; micro = r.micro; moment = r.load.value.moment; before = r.before.value } };
 
-    ghost invariant = { λ r. (r.held ≡ after_step r.before.value r.moment) × (r.outcome ≡ outcome_of r.before.value r.moment) };
+    ghost invariant = { λ r. (r.load.value.held ≡ after_step r.before.value r.load.value.moment) × (r.load.value.outcome ≡ outcome_of r.before.value r.load.value.moment) };
 }
 
 impl<B: Micro> Turn<B> {
-    pub(crate) fn new(comp: u32, micro: u32, moment: Moment, held: Held<B>) -> Turn<B>
+    pub(crate) fn new(comp: u32, micro: u32, moment: Moment, held: Tray<B>) -> Turn<B>
         requires { held.fresh ≡ false }
         ensures { result ≡ record { comp = comp; micro = micro; moment = moment; before = held } }
     {
-        Turn {
-            comp,
-            micro,
-            moment,
-            held,
-        }
+        let mut load = held.into_load();
+        load.give(moment);
+        Turn { comp, micro, load }
     }
 
     /// The number of its computation.
@@ -78,16 +73,15 @@ impl<B: Micro> Turn<B> {
         self.micro
     }
 
-    pub(crate) fn into_held(self) -> Held<B>
+    pub(crate) fn into_held(self) -> Tray<B>
         ensures { result ≡ self.before }
     {
         let Turn {
             comp: _,
             micro: _,
-            moment: _,
-            held,
+            load,
         } = self;
-        held
+        Tray::of(load)
     }
 
     /// Makes one step of the microprotocol. Where there was no memory, the turn comes back as it was.
@@ -98,28 +92,17 @@ impl<B: Micro> Turn<B> {
         let Turn {
             comp,
             micro,
-            moment,
-            mut held,
+            mut load,
         } = self;
-        let before = Snapshot::of(&held);
-        match held.step(alloc, &moment) {
-            Ok(outcome) => Ok(Ran {
+        let before = Snapshot::of(&load.held);
+        match load.step(alloc) {
+            Ok(()) => Ok(Ran {
                 comp,
                 micro,
-                moment,
                 before,
-                held,
-                outcome,
+                load,
             }),
-            Err(fault) => Err((
-                Turn {
-                    comp,
-                    micro,
-                    moment,
-                    held,
-                },
-                fault,
-            )),
+            Err(fault) => Err((Turn { comp, micro, load }, fault)),
         }
     }
 }
@@ -137,18 +120,17 @@ impl<B: Micro> Ran<B> {
         self.micro
     }
 
-    pub(crate) fn into_parts(self) -> (Held<B>, Outcome)
+    pub(crate) fn into_parts(self) -> (Tray<B>, Outcome)
         ensures held { result.0 ≡ after_step self.before self.moment }
         ensures outcome { result.1 ≡ outcome_of self.before self.moment }
     {
         let Ran {
             comp: _,
             micro: _,
-            moment: _,
             before: _before,
-            held,
-            outcome,
+            load,
         } = self;
-        (held, outcome)
+        let outcome = load.outcome;
+        (Tray::of(load), outcome)
     }
 }

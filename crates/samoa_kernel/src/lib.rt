@@ -5,6 +5,8 @@ mod basis;
 mod board;
 mod kernel;
 mod sent;
+#[cfg(test)]
+mod tests;
 
 pub use basis::Basis;
 pub use board::{Board, Entered, Seat};
