@@ -233,7 +233,8 @@ impl<B: Micro> Core<B> {
         running.turn(micro).is_over(local)
     }
 
-    pub(crate) fn has_ended(&self, comp: u32) -> bool
+    /// Whether a computation has ended that was admitted since the last clear.
+    pub fn has_ended(&self, comp: u32) -> bool
         requires kept { cleared_comps self.now < comp }
         requires admitted { comp ≤ length self.now.exts }
         ensures { result ≡ (state self.now).ended (comp - 1) }

@@ -1,0 +1,11 @@
+mod Admitting
+mod Causes
+mod Histories
+mod Knowing
+mod Making
+mod Out
+mod Replaying
+mod Runnable
+mod Standing
+mod Steady
+mod Stepping
