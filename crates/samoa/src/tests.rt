@@ -97,9 +97,18 @@ fn answer<R: Wait + Threads + Sync>(
 #[test]
 fn answers_words(rt: HostRuntime) -> Result<(), Fail> {
     let alloc = rt.alloc();
-    let cases: [(&[&str], &str, u8, &str); 9] = [
+    let cases: [(&[&str], &str, u8, &str); 13] = [
         (&[], COUNTER, 2, "! usage\n"),
         (&["run", "--call"], COUNTER, 2, "! usage\n"),
+        (&["run", "--workers", "0"], COUNTER, 2, "! usage\n"),
+        (&["run", "--workers", "65"], COUNTER, 2, "! usage\n"),
+        (&["serial", "--journal"], COUNTER, 2, "! usage\n"),
+        (
+            &["run", "--journal", "--workers", "8"],
+            COUNTER,
+            0,
+            "E 1 1 0 e 7\nD 1 c 7\nZ 1 ok 7\nS 0 c 7 0 0 0\nN 1 1 0\nJ 7\na 1\ne 1 0\nl 1\ne 1 0\nl 1\nr 1 0\nn 1\n",
+        ),
         (&["check", "--calls"], COUNTER, 2, "! usage\n"),
         (&["--help"], COUNTER, 2, "! usage\n"),
         (&["run"], "", 3, "! script NotJson\n"),

@@ -1,14 +1,8 @@
-pub mod Batches
-pub mod Closing
-pub mod Histories
-pub mod Kept
 pub mod Obeying
 pub mod OneLine
 pub mod OneOrder
 pub mod OneWord
-pub mod Opened
-pub mod Parts
-pub mod Progress
-pub mod RunOnce
 pub mod Runnable
 pub mod Served
+pub mod Runs
+pub mod Treating

@@ -14,11 +14,13 @@ use Rattle.serde_json.specs.Written.{compact_text, members_text}
 use Rattle.samoa_laws.specs.trace.Group.{IsGroup}
 use Rattle.samoa_laws.specs.text.Clause.{AppendsOneOrder, IsMute}
 use Rattle.samoa_laws.proofs.text.Laws.{appends_order_then, mute_order}
+use Rattle.samoa_report.specs.Steps.{journal_text}
+use Rattle.samoa_laws.proofs.text.Journals.{mute_journal}
 use Rattle.samoa_laws.proofs.text.Mute.{mute_begun}
 use Rattle.samoa_laws.proofs.text.Texts.{Plain, both, literal, number as number_plain, space}
 use Rattle.samoa_run.specs.declared.words.Order.{Order}
 use Rattle.samoa_run.specs.declared.words.Order.TheVariants.{Run, Serial, Check}
-use Rattle.samoa_run.specs.Due.{IsOutput, canonical_text, few_cells, has_cells, turned_away_line}
+use Rattle.samoa_run.specs.Due.{IsBegun, IsOutput, IsRunOutput, canonical_text, few_cells, has_cells, turned_away_line}
 use Rattle.samoa_run.specs.Serving.{Answers, AnswersOne, Ends, IsDueOrFailed, Obeys}
 use Rattle.samoa_run.proofs.OneLine.{compact_lacks}
 use Rattle.samoa_run.proofs.Served.{one_of}
@@ -41,18 +43,18 @@ module _ (script : Script) (group : IsGroup script) (range : IsInRange script) (
   whole_order : (text : List ℕ) → TellsAtMost script text → Appends old new text → AppendsOneOrder old new
   whole_order text tells written = prefix_order text tells (record { piece = text; appended = written; prefix = record { rest = []; whole = sym (append-nil text) } })
 
-  answers_order : {due status : ℕ} {meant : List ℕ → Type 0} → ((text : List ℕ) → meant text → TellsAtMost script text)
-      → AnswersOne due meant old new status → AppendsOneOrder old new
-  answers_order {due} {status} tells answers = go answers.no_other
+  answers_order : {due status : ℕ} {meant begun : List ℕ → Type 0} → ((text : List ℕ) → meant text → TellsAtMost script text)
+      → ((text : List ℕ) → begun text → TellsAtMost script text) → AnswersOne due meant begun old new status → AppendsOneOrder old new
+  answers_order {due} {status} tells begins answers = go answers.no_other
     where
       go : IsDueOrFailed due status → AppendsOneOrder old new
       go (inl is) = let wrote = answers.whole is in whole_order wrote.text (tells wrote.text wrote.is_meant) wrote.all
       go (inr (inl is)) = whole_order [] (nothing tt) (answers.source_failed is)
-      go (inr (inr (inl is))) = let began = answers.sink_failed is in prefix_order began.text (tells began.text began.is_meant) began.part
-      go (inr (inr (inr is))) = let began = answers.memory is in prefix_order began.text (tells began.text began.is_meant) began.part
+      go (inr (inr (inl is))) = let began = answers.sink_failed is in prefix_order began.text (begins began.text began.is_meant) began.part
+      go (inr (inr (inr is))) = let began = answers.memory is in prefix_order began.text (begins began.text began.is_meant) began.part
 
   mute_answers_order : {due status : ℕ} (text : List ℕ) → IsMute text → Answers due text old new status → AppendsOneOrder old new
-  mute_answers_order text mute answers = answers_order {meant = λ (t : List ℕ). t ≡ text} (λ t is. nothing (subst IsMute (sym is) mute)) (one_of text refl answers)
+  mute_answers_order text mute answers = answers_order {meant = λ (t : List ℕ). t ≡ text} {begun = λ (t : List ℕ). t ≡ text} (λ t is. nothing (subst IsMute (sym is) mute)) (λ t is. nothing (subst IsMute (sym is) mute)) (one_of text refl refl answers)
 
 -- ---- the texts that are written
 cells_mute : (cells needed : ℕ) → IsMute (few_cells cells needed)
@@ -77,14 +79,24 @@ canonical_mute script =
     subst (λ (d : Data). IsMute (compact_text d ++ codes "\n")) (sym found.1) (object_mute found.0)
 
 turned_away_mute : (order : Order) (script : Script) → IsMute (turned_away_line order script)
-turned_away_mute (Run cells calls) script = cells_mute cells (need script)
+turned_away_mute (Run workers cells calls journal) script = cells_mute cells (need script)
 turned_away_mute (Serial calls) script = tt
 turned_away_mute Check script = tt
 
+run_tells : (journal : Bool) (script : Script) (calls : Bool) (text : List ℕ) → IsRunOutput journal script calls text → TellsAtMost script text
+run_tells false script calls text is = the_report script calls text is
+run_tells true script calls text (steps, (finished, is)) = report_then calls (journal_text steps) (mute_journal steps) is
+
 output_tells : (order : Order) (script : Script) (text : List ℕ) → IsOutput order script text → TellsAtMost script text
-output_tells (Run cells calls) script text is = the_report script calls text is
+output_tells (Run workers cells calls journal) script text is = run_tells journal script calls text is
 output_tells (Serial calls) script text is = the_report script calls text is
 output_tells Check script text is = nothing (subst IsMute (sym is) (canonical_mute script))
+
+begun_tells : (order : Order) (script : Script) (text : List ℕ) → IsBegun order script text → TellsAtMost script text
+begun_tells (Run workers cells calls journal) script text (inl is) = the_report script calls text is
+begun_tells (Run workers cells calls journal) script text (inr is) = run_tells journal script calls text is
+begun_tells (Serial calls) script text is = output_tells (Serial calls) script text is
+begun_tells Check script text is = output_tells Check script text is
 
 -- ---- the clauses
 pub obeys_order : {order : Order} {ends : Ends} {status : ℕ} (input : List ℕ) (script : Script) → Obeys order ends status → ends.left ≡ Some input → Holds input script
@@ -95,7 +107,7 @@ obeys_order {order} {ends} {status} input script obeys left held group = go (has
     range = (held_valid input script held).in_range
 
     go : (b : Bool) → has_cells order script ≡ b → AppendsOneOrder ends.written ends.written_after
-    go true can = answers_order script group range ends.written ends.written_after (output_tells order script) (obeys.done input script left held can)
+    go true can = answers_order script group range ends.written ends.written_after (output_tells order script) (begun_tells order script) (obeys.done input script left held can)
     go false can =
         mute_answers_order script group range ends.written ends.written_after (turned_away_line order script) (turned_away_mute order script)
         (obeys.turned_away input script left held can)

@@ -18,7 +18,7 @@ use Rattle.samoa_run.specs.Statuses.{number}
 use Rattle.samoa_run.specs.declared.words.Order.TheVariants.{Run, Serial, Check}
 use Rattle.samoa_serial.specs.LimitedReport.{report_in_full}
 use Rattle.samoa_serial.specs.Ticks.{is_limited}
-use Rattle.samoa_run.specs.Due.{IsAnswerTo, IsOutput, IsTreated, has_cells, canonical_text, done_status, due_status, fault_line, is_memory, status_if, status_of_run, turned_away_line}
+use Rattle.samoa_run.specs.Due.{IsAnswerTo, IsBegun, IsOutput, IsRunOutput, IsPartlyAnswerTo, IsTreated, IsTreatedPartly, has_cells, canonical_text, done_status, due_status, fault_line, is_memory, status_if, status_of_run, turned_away_line}
 use Rattle.samoa_run.specs.Serving.{Answers, AnswersOne, IsDueOrFailed}
 
 -- what was read is the input, where that is no longer than the limit
@@ -30,7 +30,7 @@ read_all (Some x) (Some y) input bytes told taken end short =
     let same : input ≡ x = cc in
     same ∙ taken ∙ ap (λ (l : List ℕ). bytes ++ l) (end short) ∙ append-nil bytes
 
-no_longer : (a b : Option (List ℕ)) (input bytes : List ℕ) → a ≡ Some input → Consumes a b bytes → length bytes ≤ length input
+pub no_longer : (a b : Option (List ℕ)) (input bytes : List ℕ) → a ≡ Some input → Consumes a b bytes → length bytes ≤ length input
 no_longer None b input bytes told taken = absurd (cc)
 no_longer (Some x) None input bytes told taken = absurd taken
 no_longer (Some x) (Some y) input bytes told taken =
@@ -53,7 +53,7 @@ short_or_long bytes (Err Memory) fails = absurd (fails.1 refl)
 one_fault : (bytes : List ℕ) (f g : ScriptFault) → IsFaultOf bytes f → IsFaultOf bytes g → f ≡ g
 one_fault bytes f g h k = search rules
 
-one_reading : (bytes : List ℕ) (r q : Result Script ScriptFault) → IsReading bytes r → IsReading bytes q → r ≡ q
+pub one_reading : (bytes : List ℕ) (r q : Result Script ScriptFault) → IsReading bytes r → IsReading bytes q → r ≡ q
 one_reading bytes (Ok s) (Ok t) h k = ap Ok (one_script bytes s t h k)
 one_reading bytes (Ok s) (Err f) h k = absurd (k.1 (answers_apart bytes s f h k.0))
 one_reading bytes (Err f) (Ok s) h k = absurd (h.1 (answers_apart bytes s f k h.0))
@@ -132,18 +132,18 @@ number-same a b e = sym (back a) ∙ (ap named e ∙ back b)
     back Limited = refl
 
 -- a text that is meant answers
-pub one_of : {due : ℕ} {meant : List ℕ → Type 0} {old new : Option (List ℕ)} {status : ℕ} (text : List ℕ) → meant text → Answers due text old new status
-    → AnswersOne due meant old new status
-one_of text is answers = record {
+pub one_of : {due : ℕ} {meant begun : List ℕ → Type 0} {old new : Option (List ℕ)} {status : ℕ} (text : List ℕ) → meant text → begun text → Answers due text old new status
+    → AnswersOne due meant begun old new status
+one_of text is may answers = record {
   whole = λ e. record { text = text; is_meant = is; all = answers.whole e };
-  sink_failed = λ e. record { text = text; is_meant = is; part = answers.sink_failed e };
-  memory = λ e. record { text = text; is_meant = is; part = answers.memory e };
+  sink_failed = λ e. record { text = text; is_meant = may; part = answers.sink_failed e };
+  memory = λ e. record { text = text; is_meant = may; part = answers.memory e };
   source_failed = answers.source_failed;
   no_other = answers.no_other;
 }
 
 -- where one text alone is meant, that text answers
-pub the_one : {due : ℕ} {old new : Option (List ℕ)} {status : ℕ} (text : List ℕ) → AnswersOne due (λ t. t ≡ text) old new status → Answers due text old new status
+pub the_one : {due : ℕ} {old new : Option (List ℕ)} {status : ℕ} (text : List ℕ) → AnswersOne due (λ t. t ≡ text) (λ t. t ≡ text) old new status → Answers due text old new status
 the_one {old = old} {new = new} text answers =
     let W : List ℕ → Type 0 = Appends old new in
     let P : List ℕ → Type 0 = AppendsPrefix old new in
@@ -155,76 +155,105 @@ the_one {old = old} {new = new} text answers =
       no_other = answers.no_other;
     }
 
+-- a run without its journal
+pub only_report : {due : ℕ} {old new : Option (List ℕ)} {status : ℕ} (workers cells : ℕ) (script : Script) (calls : Bool)
+    → AnswersOne due (IsRunOutput false script calls) (IsBegun (Run workers cells calls false) script) old new status → Answers due (report_in_full script calls) old new status
+only_report {old = old} {new = new} workers cells script calls answers =
+    let W : List ℕ → Type 0 = Appends old new in
+    record {
+      whole = λ e. let wrote = answers.whole e in subst W wrote.is_meant wrote.all;
+      sink_failed = λ e. let began = answers.sink_failed e in part began.text began.is_meant began.part;
+      memory = λ e. let began = answers.memory e in part began.text began.is_meant began.part;
+      source_failed = answers.source_failed;
+      no_other = answers.no_other;
+    }
+  where
+    part : (text : List ℕ) → (text ≡ report_in_full script calls) ⊎ (text ≡ report_in_full script calls) → AppendsPrefix old new text → AppendsPrefix old new (report_in_full script calls)
+    part text (inl is) began = subst (λ (t : List ℕ). AppendsPrefix old new t) is began
+    part text (inr is) began = subst (λ (t : List ℕ). AppendsPrefix old new t) is began
+
 -- a script that can be treated as ordered, and one that can't
-pub treats : (order : Order) (script : Script) {old new : Option (List ℕ)} {status : ℕ} (text : List ℕ) → has_cells order script ≡ true → IsOutput order script text
-    → Answers (done_status order script) text old new status → AnswersOne (due_status order (Ok script)) (IsAnswerTo order (Ok script)) old new status
-treats order script {old = old} {new = new} {status = status} text can is answers =
-    let F : Bool → Type 0 = λ b. AnswersOne (status_if b order script) (IsTreated b order script) old new status in
-    subst F (sym can) (one_of text is answers)
+pub treats : (order : Order) (script : Script) {old new : Option (List ℕ)} {status : ℕ} → has_cells order script ≡ true
+    → AnswersOne (done_status order script) (IsOutput order script) (IsBegun order script) old new status
+    → AnswersOne (due_status order (Ok script)) (IsAnswerTo order (Ok script)) (IsPartlyAnswerTo order (Ok script)) old new status
+treats order script {old = old} {new = new} {status = status} can answers =
+    let F : Bool → Type 0 = λ b. AnswersOne (status_if b order script) (IsTreated b order script) (IsTreatedPartly b order script) old new status in
+    subst F (sym can) answers
 
 pub turns_away : (order : Order) (script : Script) {old new : Option (List ℕ)} {status : ℕ} (text : List ℕ) → has_cells order script ≡ false → text ≡ turned_away_line order script
-    → Answers (number Refused) text old new status → AnswersOne (due_status order (Ok script)) (IsAnswerTo order (Ok script)) old new status
+    → Answers (number Refused) text old new status → AnswersOne (due_status order (Ok script)) (IsAnswerTo order (Ok script)) (IsPartlyAnswerTo order (Ok script)) old new status
 turns_away order script {old = old} {new = new} {status = status} text can is answers =
-    let F : Bool → Type 0 = λ b. AnswersOne (status_if b order script) (IsTreated b order script) old new status in
-    subst F (sym can) (one_of text is answers)
+    let F : Bool → Type 0 = λ b. AnswersOne (status_if b order script) (IsTreated b order script) (IsTreatedPartly b order script) old new status in
+    subst F (sym can) (one_of text is is answers)
 
 pub not_memory : (fault : ScriptFault) → is_memory fault ≡ false → fault ≡ Memory → ⊥
 not_memory fault other is = let yes : is_memory fault ≡ true = ap is_memory is in absurd (cc)
 
--- there was no memory
-pub answers_memory : (due : ℕ) (text : List ℕ) (old new : Option (List ℕ)) → (due ≡ 6 → ⊥) → AppendsPrefix old new text → Answers due text old new 6
-answers_memory due text old new other p =
-    record {
-      whole = λ e. absurd (other (sym e));
-      sink_failed = λ e. absurd (omega arith);
-      memory = λ _. p;
-      source_failed = λ e. absurd (omega arith);
-      no_other = inr (inr (inr refl));
-    }
+-- some text may be begun for what was read
+some_begun : (order : Order) (script : Script) → (text : List ℕ) × IsBegun order script text
+some_begun (Run workers cells calls journal) script = (report_in_full script calls, inl refl)
+some_begun (Serial calls) script = (report_in_full script calls, refl)
+some_begun Check script = (canonical_text script, refl)
 
--- some text may be written for what was read
-some_output : (order : Order) (script : Script) → (text : List ℕ) × IsOutput order script text
-some_output (Run cells calls) script = (report_in_full script calls, refl)
-some_output (Serial calls) script = (report_in_full script calls, refl)
-some_output Check script = (canonical_text script, refl)
-
-some_treated : (b : Bool) (order : Order) (script : Script) → (text : List ℕ) × IsTreated b order script text
-some_treated true order script = some_output order script
+some_treated : (b : Bool) (order : Order) (script : Script) → (text : List ℕ) × IsTreatedPartly b order script text
+some_treated true order script = some_begun order script
 some_treated false order script = (turned_away_line order script, refl)
 
-some_answer : (order : Order) (found : Result Script ScriptFault) → (text : List ℕ) × IsAnswerTo order found text
+some_answer : (order : Order) (found : Result Script ScriptFault) → (text : List ℕ) × IsPartlyAnswerTo order found text
 some_answer order (Ok script) = some_treated (has_cells order script) order script
 some_answer order (Err fault) = (fault_line fault, refl)
 
 -- a run ends with 8 or 0
-run_ends : (limited : Bool) → (status_of_run limited ≡ number Limited) ⊎ (status_of_run limited ≡ number Done)
+pub run_ends : (limited : Bool) → (status_of_run limited ≡ number Limited) ⊎ (status_of_run limited ≡ number Done)
 run_ends true = inl refl
 run_ends false = inr refl
 
 pub done_ends : (order : Order) (script : Script) → (done_status order script ≡ number Limited) ⊎ (done_status order script ≡ number Done)
-done_ends (Run cells calls) script = run_ends (is_limited script)
+done_ends (Run workers cells calls journal) script = run_ends (is_limited script)
 done_ends (Serial calls) script = run_ends (is_limited script)
 done_ends Check script = inr refl
 
--- want of memory is due for nothing
-not_six : (order : Order) (script : Script) → (done_status order script ≡ number Limited) ⊎ (done_status order script ≡ number Done) → done_status order script ≡ 6 → ⊥
-not_six order script (inl is) six = absurd (omega (arith, is, six))
-not_six order script (inr is) six = absurd (omega (arith, is, six))
+-- no fault of the source and no want of memory is due
+pub record IsOther (due : ℕ) : Type 0 where
+  pub not_four : due ≡ 4 → ⊥
+  pub not_six : due ≡ 6 → ⊥
 
-due_if : (b : Bool) (order : Order) (script : Script) → status_if b order script ≡ 6 → ⊥
-due_if true order script six = not_six order script (done_ends order script) six
-due_if false order script six = omega (arith, six)
+ends_other : (due : ℕ) → (due ≡ number Limited) ⊎ (due ≡ number Done) → IsOther due
+ends_other due (inl is) = record { not_four = λ four. omega (arith, is, four); not_six = λ six. omega (arith, is, six) }
+ends_other due (inr is) = record { not_four = λ four. omega (arith, is, four); not_six = λ six. omega (arith, is, six) }
 
-due_other : (order : Order) (found : Result Script ScriptFault) → due_status order found ≡ 6 → ⊥
-due_other order (Ok script) six = due_if (has_cells order script) order script six
-due_other order (Err fault) six = omega (arith, six)
+due_if : (b : Bool) (order : Order) (script : Script) → IsOther (status_if b order script)
+due_if true order script = ends_other (done_status order script) (done_ends order script)
+due_if false order script = record { not_four = λ four. omega (arith, four); not_six = λ six. omega (arith, six) }
+
+pub due_other : (order : Order) (found : Result Script ScriptFault) → IsOther (due_status order found)
+due_other order (Ok script) = due_if (has_cells order script) order script
+due_other order (Err fault) = record { not_four = λ four. omega (arith, four); not_six = λ six. omega (arith, six) }
 
 nothing_yet : (old : Option (List ℕ)) (text : List ℕ) → AppendsPrefix old old text
 nothing_yet old text = record { piece = []; appended = Appends-nil old; prefix = record { rest = text; whole = refl } }
 
 -- there was no memory to read
 pub unread : (order : Order) (found : Result Script ScriptFault) (old : Option (List ℕ))
-    → AnswersOne (due_status order found) (IsAnswerTo order found) old old (number statuses.Memory)
+    → AnswersOne (due_status order found) (IsAnswerTo order found) (IsPartlyAnswerTo order found) old old (number statuses.Memory)
 unread order found old =
     let some = some_answer order found in
-    one_of some.0 some.1 (answers_memory (due_status order found) some.0 old old (due_other order found) (nothing_yet old some.0))
+    record {
+      whole = λ six. absurd ((due_other order found).not_six (sym six));
+      sink_failed = λ e. absurd (omega (arith, e));
+      memory = λ _. record { text = some.0; is_meant = some.1; part = nothing_yet old some.0 };
+      source_failed = λ e. absurd (omega (arith, e));
+      no_other = inr (inr (inr refl));
+    }
+
+-- the source failed
+pub failed : (order : Order) (found : Result Script ScriptFault) (old : Option (List ℕ))
+    → AnswersOne (due_status order found) (IsAnswerTo order found) (IsPartlyAnswerTo order found) old old (number SourceFailed)
+failed order found old =
+    record {
+      whole = λ four. absurd ((due_other order found).not_four (sym four));
+      sink_failed = λ e. absurd (omega (arith, e));
+      memory = λ e. absurd (omega (arith, e));
+      source_failed = λ _. Appends-nil old;
+      no_other = inr (inl refl);
+    }

@@ -3,5 +3,5 @@ pub mod Words
 pub mod Due
 pub mod Reading
 pub mod Readings
-pub mod Running
 pub mod Serving
+pub mod Runs

@@ -1,5 +1,5 @@
 -- What a call of `serve` answers and writes.
-use Rattle.std.specs.Prelude.{ℕ, ◌≡◌, ◌≤◌, ◌⊎◌, true, false, List, [], length, Option, Some, Result, IsErrOf}
+use Rattle.std.specs.Prelude.{ℕ, ◌≡◌, ◌≤◌, ◌⊎◌, true, false, List, [], length, Option, Some, Ok}
 use Rattle.std.specs.Io.KnownBytes.{Appends, IsAtEnd}
 use Rattle.samoa_ends.specs.Causes.{Rose}
 use Rattle.samoa_ends.specs.Pieces.{AppendsPrefix}
@@ -9,16 +9,10 @@ use Rattle.samoa_script.specs.declared.fault.ScriptFault.{ScriptFault}
 use Rattle.samoa_run.specs.Readings.{IsFaultOf}
 use Rattle.samoa_run.specs.declared.words.Order.{Order}
 use Rattle.samoa_run.specs.declared.reading.TheConstants.{LIMIT}
+use Rattle.samoa_run.specs.declared.status.Status.{Status}
 use Rattle.samoa_run.specs.declared.status.Status.TheVariants.{Done, Refused, SourceFailed, SinkFailed, Memory, Limited}
 use Rattle.samoa_run.specs.Statuses.{number}
-use Rattle.samoa_run.specs.Due.{IsOutput, has_cells, done_status, turned_away_line, fault_line}
-use Rattle.samoa_run.specs.declared.stop.Stop.{Stop}
-use Rattle.samoa_run.specs.declared.stop.Stop.TheVariants.{Failed}
-
--- the count has not fallen, and at `Failed` it rose
-pub record StopsFor {T : Type 0} (before now : ℕ) (result : Result T Stop) : Type 0 where
-  pub later : before ≤ now
-  pub failed : IsErrOf result Failed → Rose before now
+use Rattle.samoa_run.specs.Due.{IsAnswerTo, IsBegun, IsOutput, IsPartlyAnswerTo, has_cells, done_status, due_status, turned_away_line, fault_line}
 
 -- the status is due, or it says that a source or a sink failed or that there was no memory
 abbrev pub IsDueOrFailed : ℕ → ℕ → Type 0
@@ -45,13 +39,20 @@ pub record Began (meant : List ℕ → Type 0) (old new : Option (List ℕ)) : T
   pub is_meant : meant text
   pub part : AppendsPrefix old new text
 
--- one of the texts that are meant is due, with this status
-pub record AnswersOne (due : ℕ) (meant : List ℕ → Type 0) (old new : Option (List ℕ)) (status : ℕ) : Type 0 where
+-- one of the texts that are meant is due, with this status. Where a write failed or there was no memory, a prefix of one of
+-- these, or of another that may be begun
+pub record AnswersOne (due : ℕ) (meant begun : List ℕ → Type 0) (old new : Option (List ℕ)) (status : ℕ) : Type 0 where
   pub whole : status ≡ due → Wrote meant old new
-  pub sink_failed : status ≡ number SinkFailed → Began meant old new
-  pub memory : status ≡ number Memory → Began meant old new
+  pub sink_failed : status ≡ number SinkFailed → Began begun old new
+  pub memory : status ≡ number Memory → Began begun old new
   pub source_failed : status ≡ number SourceFailed → Appends old new []
   pub no_other : IsDueOrFailed due status
+
+-- a script that is held was treated as ordered, with this status
+pub record Treats (order : Order) (script : Script) (old new : Option (List ℕ)) (faults faults_after : ℕ) (status : Status) : Type 0 where
+  pub written : AnswersOne (due_status order (Ok script)) (IsAnswerTo order (Ok script)) (IsPartlyAnswerTo order (Ok script)) old new (number status)
+  pub statuses : (number status ≡ due_status order (Ok script)) ⊎ ((status ≡ SinkFailed) ⊎ (status ≡ Memory))
+  pub sink_failed : status ≡ SinkFailed → Rose faults faults_after
 
 -- an input that is refused: it has a fault, or the cells aren't enough for the script that it holds
 pub data IsRefused (order : Order) (input : List ℕ) : Type 0 where
@@ -77,7 +78,7 @@ pub record NoFault (ends : Ends) : Type 0 where
 -- an order was carried out with this status
 pub record Obeys (order : Order) (ends : Ends) (status : ℕ) : Type 0 where
   pub done : (input : List ℕ) (script : Script) → ends.left ≡ Some input → Holds input script → has_cells order script ≡ true
-      → AnswersOne (done_status order script) (IsOutput order script) ends.written ends.written_after status
+      → AnswersOne (done_status order script) (IsOutput order script) (IsBegun order script) ends.written ends.written_after status
   pub turned_away : (input : List ℕ) (script : Script) → ends.left ≡ Some input → Holds input script → has_cells order script ≡ false
       → Answers (number Refused) (turned_away_line order script) ends.written ends.written_after status
   pub refused : (input : List ℕ) (fault : ScriptFault) → ends.left ≡ Some input → IsFaultOf input fault

@@ -1,8 +1,8 @@
 -- The words of the command line, and what they ask for.
-use Rattle.std.specs.Prelude.{ℕ, ◌+◌, ◌*◌, ◌-◌, ◌==◌, Bool, true, false, ◌&&◌, not, List, [], ◌∷◌, nat_le, codes, bytes_eq, Option, Some, None, is_none, option_map, option_and_then, if◌then◌else◌}
-use Rattle.samoa_run.specs.declared.words.TheConstants.{CELLS, MOST_CELLS}
+use Rattle.std.specs.Prelude.{ℕ, ◌≤◌, ◌+◌, ◌*◌, ◌-◌, ◌==◌, Bool, true, false, ◌&&◌, ◌||◌, not, List, [], ◌∷◌, nat_le, codes, bytes_eq, Option, Some, None, is_none, is_some, IfSome, option_map, option_and_then, if◌then◌else◌}
+use Rattle.samoa_run.specs.declared.words.TheConstants.{CELLS, MOST_CELLS, MOST_WORKERS, WORKERS}
 use Rattle.samoa_run.specs.declared.words.Numbered.{Numbered}
-use Rattle.samoa_run.specs.declared.words.Numbered.TheVariants.{Cells}
+use Rattle.samoa_run.specs.declared.words.Numbered.TheVariants.{Cells, Workers}
 use Rattle.samoa_run.specs.declared.words.Options.{Options}
 use Rattle.samoa_run.specs.declared.words.Order.{Order}
 use Rattle.samoa_run.specs.declared.words.Order.TheVariants.{Run, Serial, Check}
@@ -16,24 +16,27 @@ abbrev pub number_from : ℕ → ℕ → List ℕ → Option ℕ
 number_from most n [] = Some n
 number_from most n (d ∷ ds) = if is_digit d && nat_le (10 * n + (d - 48)) most then number_from most (10 * n + (d - 48)) ds else None
 
--- a number from 1 on, in plain digits without a leading zero
+-- a number from 1 on, in plain digits of which the first is no zero
 abbrev pub number_in : ℕ → List ℕ → Option ℕ
 number_in most [] = None
-number_in most (d ∷ ds) = if d == 48 then None else number_from most 0 (d ∷ ds)
+number_in most (d ∷ ds) = if nat_le 49 d && nat_le d 57 then number_from most (d - 48) ds else None
 
 -- no option yet
 abbrev pub no_options : Options
-no_options = record { cells = None; calls = false }
+no_options = record { workers = None; cells = None; calls = false; journal = false }
 
 -- after an option's word, which stood nowhere before
 abbrev pub with_option : Options → List ℕ → Option Taken
 with_option options word =
     if bytes_eq word (codes "--calls") && not options.calls then Some (record { options = record options { calls = true }; awaits = None }) else
+    if bytes_eq word (codes "--journal") && not options.journal then Some (record { options = record options { journal = true }; awaits = None }) else
+    if bytes_eq word (codes "--workers") && is_none options.workers then Some (record { options = options; awaits = Some Workers }) else
     if bytes_eq word (codes "--cells") && is_none options.cells then Some (record { options = options; awaits = Some Cells }) else
     None
 
--- after the number of an option: from 1 to 1,048,576 cells
+-- after the number of an option: from 1 to 64 workers, from 1 to 1,048,576 cells
 abbrev pub with_number : Options → Numbered → List ℕ → Option Options
+with_number options Workers word = option_map (λ workers. record options { workers = Some workers }) (number_in MOST_WORKERS word)
 with_number options Cells word = option_map (λ cells. record options { cells = Some cells }) (number_in MOST_CELLS word)
 
 -- after one word more: the number of the option that awaits one, else an option's word
@@ -59,17 +62,17 @@ options_from (Some taken) (word ∷ rest) = options_from (with_word taken word) 
 abbrev pub options_in : List (List ℕ) → Option Options
 options_in words = options_from (Some (record { options = no_options; awaits = None })) words
 
--- 65,536 cells where none are given
-abbrev pub cells_or_default : Option ℕ → ℕ
-cells_or_default None = CELLS
-cells_or_default (Some cells) = cells
+abbrev pub number_or : ℕ → Option ℕ → ℕ
+number_or default None = default
+number_or default (Some number) = number
 
+-- 4 workers and 65,536 cells where none are given
 abbrev pub run_with : Options → Order
-run_with options = Run (cells_or_default options.cells) options.calls
+run_with options = Run (number_or WORKERS options.workers) (number_or CELLS options.cells) options.calls options.journal
 
--- a serial run takes no cells
+-- a serial run takes no workers, no cells and no journal
 abbrev pub serial_with : Options → Option Order
-serial_with options = if is_none options.cells then Some (Serial options.calls) else None
+serial_with options = if is_some options.workers || is_some options.cells || options.journal then None else Some (Serial options.calls)
 
 abbrev pub when_alone : List (List ℕ) → Option Order
 when_alone [] = Some Check
@@ -93,3 +96,12 @@ serial_only _ = None
 abbrev pub check_only : Order → Option Order
 check_only Check = Some Check
 check_only _ = None
+
+-- the numbers that were given are in their ranges
+abbrev pub HasRanges : Options → Type 0
+HasRanges options = IfSome options.workers (λ workers. (1 ≤ workers) × (workers ≤ MOST_WORKERS)) × IfSome options.cells (λ cells. cells ≤ MOST_CELLS)
+
+-- the numbers of an order are those that its words can give
+abbrev pub HasNumbers : Order → Type 0
+HasNumbers (Run workers cells calls journal) = (1 ≤ workers) × (workers ≤ MOST_WORKERS) × (cells ≤ MOST_CELLS)
+HasNumbers _ = Unit {0}

@@ -1,70 +1,78 @@
-//! An order on what was read.
-ghost use Rattle.std.specs.Prelude.{◌≡◌, ◌≢◌, ◌≤◌, ◌<◌, ◌⊎◌, Ok, IfOk};
+//! What is answered for a script that is held, or for an input that holds none.
+ghost use Rattle.std.specs.Prelude.{◌≡◌, ◌≤◌, ◌<◌, ◌⊎◌, IfOk};
 ghost use Rattle.samoa_model.specs.Valid.{IsValid};
 ghost use Rattle.samoa_ends.specs.Causes.{Rose};
 ghost use Rattle.samoa_micro.specs.Stocks.{HasEnough};
-ghost use Rattle.samoa_run.specs.Due.{IsAnswerTo, canonical_text, due_status, ended_with, fault_line as line_of, few_cells};
-ghost use Rattle.samoa_run.specs.Serving.{Answers, AnswersOne};
+ghost use Rattle.samoa_run.specs.Due.{canonical_text, fault_line as line_of, few_cells};
+ghost use Rattle.samoa_run.specs.Serving.{Answers, Treats};
 ghost use Rattle.samoa_run.specs.Statuses.{number};
+ghost use Rattle.samoa_run.specs.Words.{HasNumbers};
 
 use crate::fault::{cells_line, fault_line};
-use crate::report::{Finished, run_script};
 use crate::status::Status;
-use crate::stop::Stop;
+use crate::ticks::{run_to_status, status_of};
 use crate::words::{CELLS, Order};
-use crate::writing::write_lines;
+use samoa_core::Core;
 use samoa_ends::{Failed, Sink};
 use samoa_micro::{Micro, Stock};
 use samoa_model::{NoMemory, Script};
 use samoa_print::{need, print_script};
 use samoa_script::ScriptFault;
+use samoa_ticks::{run_one_by_one, write_lines};
+use samoa_workers::Gate;
 use std::alloc::Global;
+use std::marker::Send;
+use std::sync::Wait;
+use std::thread::Threads;
 
-/// Does what is ordered with a script that is held, and answers the status.
-pub fn treat<K: Sink, B: Micro>(
-    alloc: Global,
-    order: Order,
-    script: &Script,
-    stock: Stock<B>,
-    sink: &mut K,
-) -> Status
-    requires valid { IsValid script.now }
-    requires stock { HasEnough stock }
-    ensures written { AnswersOne (due_status order (Ok script.now)) (IsAnswerTo order (Ok script.now)) (K.written sink.old) (K.written sink.new) (number result) }
-    ensures statuses { (number result ≡ due_status order (Ok script.now)) ⊎ (result ≡ Status.SinkFailed) ⊎ (result ≡ Status.Memory) }
-    ensures sink_failed { result ≡ Status.SinkFailed → Rose (K.faults sink.old) (K.faults sink.new) }
-{
-    match order {
-        Order::Check => write_canonical(alloc, script, sink),
-        Order::Run { cells, calls } => run_in_parts(alloc, script, stock, cells, calls, sink),
-        Order::Serial { calls } => run_one_by_one(alloc, script, stock, calls, sink),
-    }
+/// What a run on workers is asked for: so many workers, so many cells for what is open at once, the lines of calls, and the
+/// journal after the report.
+#[derive(Clone, Copy, Debug, PartialEq, Eq)]
+pub struct Asked {
+    pub workers: u32,
+    pub cells: u32,
+    pub calls: bool,
+    pub journal: bool,
 }
 
-/// Writes the report of a script, with so many cells for what is open at once.
-fn run_in_parts<K: Sink, B: Micro>(
+/// Runs a script on workers, and writes its report, and the journal after it where that is asked for.
+pub fn write_run<R: Wait + Threads + Sync, K: Sink, G: Gate + Sync, B: Micro + Send>(
+    rt: &R,
     alloc: Global,
     script: &Script,
     stock: Stock<B>,
-    cells: u32,
-    calls: bool,
+    asked: Asked,
     sink: &mut K,
+    gate: &G,
 ) -> Status
     requires valid { IsValid script.now }
     requires stock { HasEnough stock }
-    ensures written { AnswersOne (due_status (Order.Run cells calls) (Ok script.now)) (IsAnswerTo (Order.Run cells calls) (Ok script.now)) (K.written sink.old) (K.written sink.new) (number result) }
-    ensures statuses { (number result ≡ due_status (Order.Run cells calls) (Ok script.now)) ⊎ (result ≡ Status.SinkFailed) ⊎ (result ≡ Status.Memory) }
-    ensures sink_failed { result ≡ Status.SinkFailed → Rose (K.faults sink.old) (K.faults sink.new) }
+    requires numbers { HasNumbers (Order.Run asked.workers asked.cells asked.calls asked.journal) }
+    ensures { Treats (Order.Run asked.workers asked.cells asked.calls asked.journal) script.now (K.written sink.old) (K.written sink.new) (K.faults sink.old) (K.faults sink.new) result }
 {
     let needed = need(script);
-    if cells < needed {
-        return refuse_cells(alloc, cells, needed, sink);
+    if asked.cells < needed {
+        return refuse_cells(alloc, asked.cells, needed, sink);
     }
-    status_of(run_script(alloc, script, stock, cells, false, calls, sink))
+    let Ok(core) = Core::new(alloc, script, stock, asked.cells) else {
+        return Status::Memory;
+    };
+    let (_core, status) = run_to_status(
+        rt,
+        alloc,
+        script,
+        core,
+        asked.workers,
+        asked.calls,
+        asked.journal,
+        sink,
+        gate,
+    );
+    status
 }
 
-/// Writes the report of a script, by one computation after another.
-fn run_one_by_one<K: Sink, B: Micro>(
+/// Runs a script, one computation after another on this thread, and writes its report.
+pub fn write_report<K: Sink, B: Micro>(
     alloc: Global,
     script: &Script,
     stock: Stock<B>,
@@ -73,23 +81,14 @@ fn run_one_by_one<K: Sink, B: Micro>(
 ) -> Status
     requires valid { IsValid script.now }
     requires stock { HasEnough stock }
-    ensures written { AnswersOne (due_status (Order.Serial calls) (Ok script.now)) (IsAnswerTo (Order.Serial calls) (Ok script.now)) (K.written sink.old) (K.written sink.new) (number result) }
-    ensures statuses { (number result ≡ due_status (Order.Serial calls) (Ok script.now)) ⊎ (result ≡ Status.SinkFailed) ⊎ (result ≡ Status.Memory) }
-    ensures sink_failed { result ≡ Status.SinkFailed → Rose (K.faults sink.old) (K.faults sink.new) }
+    ensures { Treats (Order.Serial calls) script.now (K.written sink.old) (K.written sink.new) (K.faults sink.old) (K.faults sink.new) result }
 {
-    status_of(run_script(alloc, script, stock, CELLS, true, calls, sink))
-}
-
-/// The status of a run.
-fn status_of<B: Micro>(written: Result<Finished<B>, Stop>) -> Status
-    ensures { number result ≡ ended_with (λ finished. finished.limited) written }
-{
-    match written {
-        Ok(finished) if finished.limited => Status::Limited,
-        Ok(_) => Status::Done,
-        Err(Stop::Failed) => Status::SinkFailed,
-        Err(Stop::Memory) => Status::Memory,
-    }
+    let Ok(core) = Core::new(alloc, script, stock, CELLS) else {
+        return Status::Memory;
+    };
+    let mut core = core;
+    let ended = run_one_by_one(alloc, script, &mut core, calls, sink);
+    status_of(ended)
 }
 
 /// Writes the line of cells that aren't enough, and answers the status.
@@ -105,7 +104,7 @@ fn refuse_cells<K: Sink>(alloc: Global, cells: u32, needed: u32, sink: &mut K) -
 }
 
 /// Writes the canonical text of a script, and a line feed.
-fn write_canonical<K: Sink>(alloc: Global, script: &Script, sink: &mut K) -> Status
+pub fn write_canonical<K: Sink>(alloc: Global, script: &Script, sink: &mut K) -> Status
     ensures written { Answers (number Status.Done) (canonical_text script.now) (K.written sink.old) (K.written sink.new) (number result) }
     ensures statuses { (result ≡ Status.Done) ⊎ (result ≡ Status.SinkFailed) ⊎ (result ≡ Status.Memory) }
     ensures sink_failed { result ≡ Status.SinkFailed → Rose (K.faults sink.old) (K.faults sink.new) }

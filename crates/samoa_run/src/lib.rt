@@ -3,20 +3,15 @@
 
 mod answer;
 mod fault;
-mod gate;
 mod obey;
 mod reading;
-mod report;
-mod running;
 mod status;
-mod stop;
+mod ticks;
 mod top;
 mod words;
-mod writing;
 
-pub use gate::{Gate, NoGate};
 pub use reading::{LIMIT, read_input};
-pub use report::{Finished, run_script};
-pub use stop::Stop;
+pub use samoa_workers::{Gate, NoGate};
+pub use ticks::run_ticks;
 pub use top::{check_only, serve, serve_serial};
 pub use words::CELLS;

@@ -1,73 +1,144 @@
 //! An order carried out on what a source gives.
-ghost use Rattle.std.specs.Prelude.{◌≡◌, ◌≢◌, ◌⊎◌, ◌≤◌, ℕ, List, Result, Some, length};
+ghost use Rattle.std.specs.Prelude.{◌≡◌, ℕ, List, Some, IfErr, IfOk, OnOk};
 ghost use Rattle.std.specs.Io.KnownBytes.{IsAtEnd};
-ghost use Rattle.samoa_model.specs.declared.script.Script.{Script as ScriptValue};
+ghost use Rattle.samoa_model.specs.Valid.{IsValid};
 ghost use Rattle.samoa_ends.specs.Causes.{Rose};
+ghost use Rattle.samoa_grammar.specs.Held.{Holds};
 ghost use Rattle.samoa_script.specs.declared.fault.ScriptFault.{ScriptFault as Fault};
-ghost use Rattle.samoa_run.specs.Readings.{IsReading};
+ghost use Rattle.samoa_run.specs.declared.words.Order.{Order as OrderValue};
 ghost use Rattle.samoa_micro.specs.Stocks.{HasEnough};
-ghost use Rattle.samoa_run.specs.Due.{IsAnswerTo, due_status, is_memory as memory_is};
-ghost use Rattle.samoa_run.specs.Serving.{AnswersOne, IsDueOrFailed, Obeys};
+ghost use Rattle.samoa_run.specs.Due.{is_memory as memory_is};
+ghost use Rattle.samoa_run.specs.Serving.{Obeys};
 ghost use Rattle.samoa_run.specs.Statuses.{number};
+ghost use Rattle.samoa_run.specs.Words.{HasNumbers};
 
-use crate::answer::{refuse, treat};
-use crate::reading::{LIMIT, read_input};
+use crate::answer::{Asked, refuse, write_canonical, write_report, write_run};
+use crate::reading::read_input;
 use crate::status::Status;
-use crate::stop::Stop;
 use crate::words::Order;
 use samoa_ends::{Sink, Source};
 use samoa_micro::{Micro, Stock};
+use samoa_model::Script;
 use samoa_script::{ScriptFault, read_script};
+use samoa_ticks::Stop;
+use samoa_workers::Gate;
 use std::alloc::Global;
+use std::marker::Send;
+use std::sync::Wait;
+use std::thread::Threads;
 
-/// Reads the source, does what is ordered with what it gave, and answers the status.
-pub fn obey<S: Source, K: Sink, B: Micro>(
+/// Reads the source, does what is ordered with the script that it gave, and answers the status.
+pub fn obey<R: Wait + Threads + Sync, S: Source, K: Sink, G: Gate + Sync, B: Micro + Send>(
+    rt: &R,
     alloc: Global,
     order: Order,
     source: &mut S,
     sink: &mut K,
     stock: Stock<B>,
+    gate: &G,
 ) -> Status
-    requires { HasEnough stock }
+    requires stock { HasEnough stock }
+    requires numbers { HasNumbers order }
     ensures { Obeys order
         (record { left = S.left source.old; left_after = S.left source.new; source_faults = S.faults source.old; source_faults_after = S.faults source.new; written = K.written sink.old; written_after = K.written sink.new; sink_faults = K.faults sink.old; sink_faults_after = K.faults sink.new })
         (number result) }
 {
-    carry_out(alloc, order, source, sink, stock)
+    match order {
+        Order::Run {
+            workers,
+            cells,
+            calls,
+            journal,
+        } => {
+            let asked = Asked {
+                workers,
+                cells,
+                calls,
+                journal,
+            };
+            obey_run(rt, alloc, asked, source, sink, stock, gate)
+        }
+        Order::Serial { calls } => obey_serial(alloc, calls, source, sink, stock),
+        Order::Check => obey_check(alloc, source, sink),
+    }
 }
 
-/// The same, told by what the input reads as.
-fn carry_out<S: Source, K: Sink, B: Micro>(
+/// Runs the script of the source on workers, and answers the status.
+fn obey_run<R: Wait + Threads + Sync, S: Source, K: Sink, G: Gate + Sync, B: Micro + Send>(
+    rt: &R,
     alloc: Global,
-    order: Order,
+    asked: Asked,
+    source: &mut S,
+    sink: &mut K,
+    stock: Stock<B>,
+    gate: &G,
+) -> Status
+    requires stock { HasEnough stock }
+    requires numbers { HasNumbers (Order.Run asked.workers asked.cells asked.calls asked.journal) }
+    ensures { Obeys (Order.Run asked.workers asked.cells asked.calls asked.journal)
+        (record { left = S.left source.old; left_after = S.left source.new; source_faults = S.faults source.old; source_faults_after = S.faults source.new; written = K.written sink.old; written_after = K.written sink.new; sink_faults = K.faults sink.old; sink_faults_after = K.faults sink.new })
+        (number result) }
+{
+    match take_script(alloc, source, sink) {
+        Ok(script) => write_run(rt, alloc, &script, stock, asked, sink, gate),
+        Err(status) => status,
+    }
+}
+
+/// Runs the script of the source one computation after another, and answers the status.
+pub fn obey_serial<S: Source, K: Sink, B: Micro>(
+    alloc: Global,
+    calls: bool,
     source: &mut S,
     sink: &mut K,
     stock: Stock<B>,
 ) -> Status
     requires { HasEnough stock }
-    ensures written { (input : List ℕ) (found : Result ScriptValue Fault) → S.left source.old ≡ Some input → IsReading input found
-        → AnswersOne (due_status order found) (IsAnswerTo order found) (K.written sink.old) (K.written sink.new) (number result) }
-    ensures complete { (input : List ℕ) (found : Result ScriptValue Fault) → S.left source.old ≡ Some input → IsReading input found
-        → IsDueOrFailed (due_status order found) (number result) }
-    ensures refused_only { (input : List ℕ) → S.left source.old ≡ Some input → result ≡ Status.Refused
-        → (found : Result ScriptValue Fault) × (IsReading input found × (due_status order found ≡ number Status.Refused)) }
-    ensures read { result ≡ Status.Done → IsAtEnd (S.left source.new) }
-    ensures limited_read { result ≡ Status.Limited → IsAtEnd (S.left source.new) }
-    ensures refused_read { (input : List ℕ) → S.left source.old ≡ Some input → length input ≤ LIMIT → result ≡ Status.Refused
-        → IsAtEnd (S.left source.new) }
-    ensures source_failed { result ≡ Status.SourceFailed → Rose (S.faults source.old) (S.faults source.new) }
-    ensures sink_failed { result ≡ Status.SinkFailed → Rose (K.faults sink.old) (K.faults sink.new) }
-    ensures statuses { (number result ≡ number Status.Done) ⊎ ((number result ≡ number Status.Limited) ⊎ IsDueOrFailed (number Status.Refused) (number result)) }
+    ensures { Obeys (Order.Serial calls)
+        (record { left = S.left source.old; left_after = S.left source.new; source_faults = S.faults source.old; source_faults_after = S.faults source.new; written = K.written sink.old; written_after = K.written sink.new; sink_faults = K.faults sink.old; sink_faults_after = K.faults sink.new })
+        (number result) }
+{
+    match take_script(alloc, source, sink) {
+        Ok(script) => write_report(alloc, &script, stock, calls, sink),
+        Err(status) => status,
+    }
+}
+
+/// Writes the canonical text of the source's script, and answers the status.
+pub fn obey_check<S: Source, K: Sink>(alloc: Global, source: &mut S, sink: &mut K) -> Status
+    ensures { Obeys Order.Check
+        (record { left = S.left source.old; left_after = S.left source.new; source_faults = S.faults source.old; source_faults_after = S.faults source.new; written = K.written sink.old; written_after = K.written sink.new; sink_faults = K.faults sink.old; sink_faults_after = K.faults sink.new })
+        (number result) }
+{
+    match take_script(alloc, source, sink) {
+        Ok(script) => write_canonical(alloc, &script, sink),
+        Err(status) => status,
+    }
+}
+
+/// The script that the source gives; or the status where it gives none, and then its fault line was written.
+fn take_script<S: Source, K: Sink>(
+    alloc: Global,
+    source: &mut S,
+    sink: &mut K,
+) -> Result<Script, Status>
+    ensures valid { IfOk result (λ script. IsValid script) }
+    ensures held { IfOk result (λ script. (input : List ℕ) → S.left source.old ≡ Some input → Holds input script) }
+    ensures at_end { OnOk result (IsAtEnd (S.left source.new)) }
+    ensures unwritten { OnOk result (sink.new ≡ sink.old) }
+    ensures refused { IfErr result (λ status. (order : OrderValue) → Obeys order
+        (record { left = S.left source.old; left_after = S.left source.new; source_faults = S.faults source.old; source_faults_after = S.faults source.new; written = K.written sink.old; written_after = K.written sink.new; sink_faults = K.faults sink.old; sink_faults_after = K.faults sink.new })
+        (number status)) }
 {
     let bytes = match read_input(alloc, source) {
         Ok(bytes) => bytes,
-        Err(Stop::Failed) => return Status::SourceFailed,
-        Err(Stop::Memory) => return Status::Memory,
+        Err(Stop::Failed) => return Err(Status::SourceFailed),
+        Err(Stop::Memory) => return Err(Status::Memory),
     };
     match read_script(alloc, &bytes) {
-        Ok(script) => treat(alloc, order, &script, stock, sink),
-        Err(fault) if is_memory(&fault) => Status::Memory,
-        Err(fault) => refuse(alloc, &fault, sink),
+        Ok(script) => Ok(script),
+        Err(fault) if is_memory(&fault) => Err(Status::Memory),
+        Err(fault) => Err(refuse(alloc, &fault, sink)),
     }
 }
 

@@ -1,11 +1,11 @@
 //! The input from a source.
 ghost use Rattle.std.specs.Prelude.{◌≡◌, ◌≤◌, ◌<◌, ◌++◌, length, take, IfOk, OnErr};
 ghost use Rattle.std.specs.Io.KnownBytes.{Consumes, IsAtEnd};
-ghost use Rattle.samoa_run.specs.Serving.{StopsFor};
+ghost use Rattle.samoa_ticks.specs.Stops.{StopsFor};
 ghost use Rattle.samoa_run.specs.Reading.{ReadsInto};
 
-use crate::stop::Stop;
 use samoa_ends::Source;
+use samoa_ticks::Stop;
 use std::alloc::Global;
 
 /// The longest input.

@@ -1,5 +1,5 @@
 //! The top call.
-ghost use Rattle.std.specs.Prelude.{◌≡◌, ◌≢◌, ◌⊎◌, ◌<◌, ◌≤◌, ℕ, List, Bool, None, true, length, map, codes, string_bytes, Some, option_and_then};
+ghost use Rattle.std.specs.Prelude.{◌≡◌, ◌≢◌, ◌⊎◌, ◌<◌, ◌≤◌, ℕ, List, Bool, None, true, false, length, map, codes, string_bytes, Some, option_and_then};
 ghost use Rattle.std.specs.Io.KnownBytes.{IsAtEnd};
 ghost use Rattle.samoa_model.specs.declared.script.Script.{Script as ScriptValue};
 ghost use Rattle.samoa_model.specs.Cells.{need};
@@ -10,18 +10,18 @@ ghost use Rattle.samoa_laws.specs.trace.Group.{IsGroup};
 ghost use Rattle.samoa_laws.specs.text.Clause.{AppendsOneOrder};
 ghost use Rattle.samoa_micro.specs.Stocks.{HasEnough};
 ghost use Rattle.samoa_run.specs.declared.words.Order.{Order as OrderValue};
-ghost use Rattle.samoa_run.specs.Due.{run_status};
-ghost use Rattle.samoa_run.specs.Serving.{Answers, Obeys};
+ghost use Rattle.samoa_run.specs.Due.{IsRunOutput, run_status};
+ghost use Rattle.samoa_run.specs.Serving.{Answers, AnswersOne, Obeys};
 ghost use Rattle.samoa_run.specs.Statuses.{number};
 ghost use Rattle.samoa_run.specs.Words.{order_in as order_of, check_only as only_check, serial_only as only_serial};
 
 use crate::answer::write_text;
-use crate::gate::Gate;
-use crate::obey::obey;
+use crate::obey::{obey, obey_check, obey_serial};
 use crate::status::Status;
 use crate::words::{Order, order_in};
 use samoa_ends::{Sink, Source};
 use samoa_micro::{Micro, Stock};
+use samoa_workers::Gate;
 use std::alloc::Global;
 use std::marker::Send;
 use std::sync::Wait;
@@ -31,44 +31,51 @@ use std::thread::Threads;
 ///
 /// | Words | What is done |
 /// |---|---|
-/// | `run [--cells n] [--calls]` | reads a script, runs it, and writes its report, with the lines of calls where asked |
+/// | `run [--workers n] [--cells n] [--calls] [--journal]` | reads a script, runs it on workers, and writes its report, with the lines of calls where asked, and after it the journal where asked |
 /// | `serial [--calls]` | the same, one computation after another |
 /// | `check` | reads a script, and writes its canonical text and a line feed |
 ///
 /// The source is read to its end, or to one byte past 1,048,576. A run has as many computations open at once as its cells
 /// are enough for (1 to 1,048,576, and 65,536 where none are given): 16 for each unit of a budget, and 16 more. The number
 /// of cells changes no byte of the report. At most 100,000 computations are run; where more would be admitted, the line
-/// `L 100000` ends the report, in place of the states and the totals.
+/// `L 100000` ends the report, in place of the states and the totals. There are 1 to 64 workers, 4 where none are given;
+/// their number changes no byte of the report. The journal is the line `J` with the number of steps, and a line for each
+/// step; it is that of some whole run of the script.
 ///
 /// | Status | Comes | What is written |
 /// |---|---|---|
-/// | 0 | all was done and written, and the limit didn't end the run | the report, or the text |
+/// | 0 | all was done and written, and the limit didn't end the run | the report, and the journal where asked, or the text |
 /// | 2 | the words are others | `! usage` |
 /// | 3 | the input has a fault, or the cells are too few for it | the fault line |
 /// | 4 | a read failed | nothing |
 /// | 5 | a write failed | a prefix of what was to be written |
 /// | 6 | there was no memory | a prefix of what was to be written |
-/// | 8 | the limit ended the run: computation 100,001 would be admitted | the report, which ends with the line of the limit |
+/// | 8 | the limit ended the run: computation 100,001 would be admitted | the report, which ends with the line of the limit, and the journal where asked |
 ///
-/// The sink is given the rest of one line at a time. For now `run` works on one thread, and no gate is called.
+/// The sink is given the rest of one line at a time. The gate is called around each handler step of a run on workers.
 pub fn serve<R: Wait + Threads + Sync, S: Source, K: Sink, G: Gate + Sync, B: Micro + Send>(
-    _rt: &R,
+    rt: &R,
     alloc: Global,
     words: &[String],
     source: &mut S,
     sink: &mut K,
     stock: Stock<B>,
-    _gate: &G,
+    gate: &G,
 ) -> u8
     requires { HasEnough stock }
 
-    // The headline: the words ask for a run, the input holds a script, and the cells are enough for it. What
-    // is written is a prefix of the report of running all that it admits whole, one after another: its own events, the
-    // messages and the changes that were asked for. All of it is written at the due status: 8 where the limit ends the
-    // run, and else 0.
-    ensures report { (input : List ℕ) (script : ScriptValue) (cells : ℕ) (calls : Bool) → order_of (map string_bytes words.now) ≡ Some (OrderValue.Run cells calls)
+    // The headline: the words ask for a run by so many workers, the input holds a script, and the cells are enough for it.
+    // Whatever the interleaving, what is written is a prefix of the report of running all that the script admits whole, one
+    // after another: its own events, the messages and the changes that were asked for. All of it is written at the due
+    // status: 8 where the limit ends the run, and else 0.
+    ensures report { (input : List ℕ) (script : ScriptValue) (workers cells : ℕ) (calls : Bool) → order_of (map string_bytes words.now) ≡ Some (OrderValue.Run workers cells calls false)
         → S.left source.old ≡ Some input → Holds input script → need script ≤ cells
         → Answers (run_status script) (report_in_full script calls) (K.written sink.old) (K.written sink.new) result }
+
+    // The same where the journal is asked for: that of a whole run of the script follows the report.
+    ensures journal { (input : List ℕ) (script : ScriptValue) (workers cells : ℕ) (calls : Bool) → order_of (map string_bytes words.now) ≡ Some (OrderValue.Run workers cells calls true)
+        → S.left source.old ≡ Some input → Holds input script → need script ≤ cells
+        → AnswersOne (run_status script) (IsRunOutput true script calls) (λ text. (text ≡ report_in_full script calls) ⊎ IsRunOutput true script calls text) (K.written sink.old) (K.written sink.new) result }
 
     // The words give an order, and it is carried out.
     ensures obeys { (order : OrderValue) → order_of (map string_bytes words.now) ≡ Some order → Obeys order
@@ -90,7 +97,7 @@ pub fn serve<R: Wait + Threads + Sync, S: Source, K: Sink, G: Gate + Sync, B: Mi
     ensures sink_failed { result ≡ 5 → Rose (K.faults sink.old) (K.faults sink.new) }
 {
     match order_in(words) {
-        Some(order) => obey(alloc, order, source, sink, stock).number(),
+        Some(order) => obey(rt, alloc, order, source, sink, stock, gate).number(),
         None => refuse_words(sink).number(),
     }
 }
@@ -127,9 +134,7 @@ pub fn serve_serial<S: Source, K: Sink, B: Micro>(
     ensures sink_failed { result ≡ 5 → Rose (K.faults sink.old) (K.faults sink.new) }
 {
     match order_in(words) {
-        Some(Order::Serial { calls }) => {
-            obey(alloc, Order::Serial { calls }, source, sink, stock).number()
-        }
+        Some(Order::Serial { calls }) => { obey_serial(alloc, calls, source, sink, stock).number() }
         _ => refuse_words(sink).number(),
     }
 }
@@ -140,9 +145,9 @@ pub fn check_only<S: Source, K: Sink, B: Micro>(
     words: &[String],
     source: &mut S,
     sink: &mut K,
-    stock: Stock<B>,
+    _stock: Stock<B>,
 ) -> u8
-    requires { HasEnough stock }
+    requires { HasEnough _stock }
 
     ensures obeys { (order : OrderValue) → option_and_then only_check (order_of (map string_bytes words.now)) ≡ Some order → Obeys order
         (record { left = S.left source.old; left_after = S.left source.new; source_faults = S.faults source.old; source_faults_after = S.faults source.new; written = K.written sink.old; written_after = K.written sink.new; sink_faults = K.faults sink.old; sink_faults_after = K.faults sink.new })
@@ -156,7 +161,7 @@ pub fn check_only<S: Source, K: Sink, B: Micro>(
     ensures sink_failed { result ≡ 5 → Rose (K.faults sink.old) (K.faults sink.new) }
 {
     match order_in(words) {
-        Some(Order::Check) => obey(alloc, Order::Check, source, sink, stock).number(),
+        Some(Order::Check) => obey_check(alloc, source, sink).number(),
         _ => refuse_words(sink).number(),
     }
 }

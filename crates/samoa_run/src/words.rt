@@ -1,17 +1,31 @@
 //! The words of the command line.
-ghost use Rattle.std.specs.Prelude.{◌≡◌, ◌≤◌, map, string_bytes, Some};
-ghost use Rattle.samoa_run.specs.Words.{order_in, run_with as run_of, serial_with as serial_of, when_alone as alone, options_in as options_of, options_from as options_after, with_word as after_word, with_option as after_option, with_number as after_number, unless_awaiting as unless_awaited, number_in as number_of, number_from as number_after};
+ghost use Rattle.std.specs.Prelude.{◌≡◌, ◌≤◌, map, string_bytes, IfSome, Some};
+ghost use Rattle.samoa_run.specs.Words.{HasNumbers, HasRanges, order_in, run_with as run_of, serial_with as serial_of, when_alone as alone, options_in as options_of, options_from as options_after, with_word as after_word, with_option as after_option, with_number as after_number, unless_awaiting as unless_awaited, number_in as number_of, number_from as number_after};
 
 /// What the words ask for.
 #[derive(Clone, Copy, Debug, PartialEq, Eq)]
 pub enum Order {
-    /// The report of a script, with so many cells for what is open at once.
-    Run { cells: u32, calls: bool },
+    /// The report of a script by so many workers, with so many cells for what is open at once, and the journal after it
+    /// where that is asked for.
+    Run {
+        workers: u32,
+        cells: u32,
+        calls: bool,
+        journal: bool,
+    },
     /// The report of a script, one computation after another.
-    Serial { calls: bool },
+    Serial {
+        calls: bool,
+    },
     /// The canonical text of a script.
     Check,
 }
+
+/// How many workers there are where none are given.
+pub const WORKERS: u32 = 4;
+
+/// The most workers that can be given.
+pub const MOST_WORKERS: u32 = 64;
 
 /// How many cells there are where none are given.
 pub const CELLS: u32 = 65_536;
@@ -22,13 +36,16 @@ pub const MOST_CELLS: u32 = 1_048_576;
 /// The options of a run, each as it is given.
 #[derive(Clone, Copy, Debug, PartialEq, Eq)]
 struct Options {
+    workers: Option<u32>,
     cells: Option<u32>,
     calls: bool,
+    journal: bool,
 }
 
 /// An option that has a number.
 #[derive(Clone, Copy, Debug, PartialEq, Eq)]
 enum Numbered {
+    Workers,
     Cells,
 }
 
@@ -41,7 +58,8 @@ struct Taken {
 
 /// The order that the words give, if they give one.
 pub fn order_in(words: &[String]) -> Option<Order>
-    ensures { result ≡ order_in (map string_bytes words.now) }
+    ensures order { result ≡ order_in (map string_bytes words.now) }
+    ensures numbers { IfSome result HasNumbers }
 {
     let (word, rest) = words.split_first()?;
     match word.as_str() {
@@ -56,33 +74,41 @@ pub fn order_in(words: &[String]) -> Option<Order>
 }
 
 fn run_with(options: Options) -> Order
-    ensures { result ≡ run_of options }
+    requires { HasRanges options }
+    ensures order { result ≡ run_of options }
+    ensures numbers { HasNumbers result }
 {
     Order::Run {
+        workers: options.workers.unwrap_or(WORKERS),
         cells: options.cells.unwrap_or(CELLS),
         calls: options.calls,
+        journal: options.journal,
     }
 }
 
-/// A serial run takes no cells.
+/// A serial run takes no workers, no cells and no journal.
 fn serial_with(options: Options) -> Option<Order>
-    ensures { result ≡ serial_of options }
+    ensures order { result ≡ serial_of options }
+    ensures numbers { IfSome result HasNumbers }
 {
-    match options.cells {
-        None => Some(Order::Serial {
-            calls: options.calls,
-        }),
-        Some(_) => None,
+    if options.workers.is_some() || options.cells.is_some() || options.journal {
+        return None;
     }
+    Some(Order::Serial {
+        calls: options.calls,
+    })
 }
 
 /// The options of a run, in any order, each at most once.
 fn options_in(words: &[String]) -> Option<Options>
-    ensures { result ≡ options_of (map string_bytes words.now) }
+    ensures options { result ≡ options_of (map string_bytes words.now) }
+    ensures ranges { IfSome result HasRanges }
 {
     let options = Options {
+        workers: None,
         cells: None,
         calls: false,
+        journal: false,
     };
     let awaits = None;
     options_from(Taken { options, awaits }, words)
@@ -90,7 +116,9 @@ fn options_in(words: &[String]) -> Option<Options>
 
 /// The options that stand in the words, after those before them.
 fn options_from(taken: Taken, words: &[String]) -> Option<Options>
-    ensures { result ≡ options_after (Some taken) (map string_bytes words.now) }
+    requires { HasRanges taken.options }
+    ensures options { result ≡ options_after (Some taken) (map string_bytes words.now) }
+    ensures ranges { IfSome result HasRanges }
 {
     match words.split_first() {
         Some((word, rest)) => options_from(with_word(taken, word)?, rest),
@@ -100,7 +128,9 @@ fn options_from(taken: Taken, words: &[String]) -> Option<Options>
 
 /// The options, unless the number of one is missing.
 fn unless_awaiting(taken: Taken) -> Option<Options>
-    ensures { result ≡ unless_awaited taken.options taken.awaits }
+    requires { HasRanges taken.options }
+    ensures options { result ≡ unless_awaited taken.options taken.awaits }
+    ensures ranges { IfSome result HasRanges }
 {
     match taken.awaits {
         None => Some(taken.options),
@@ -110,7 +140,9 @@ fn unless_awaiting(taken: Taken) -> Option<Options>
 
 /// One word more: the number of the option that awaits one, else an option's word.
 fn with_word(taken: Taken, word: &String) -> Option<Taken>
-    ensures { result ≡ after_word taken (string_bytes word.now) }
+    requires { HasRanges taken.options }
+    ensures taken { result ≡ after_word taken (string_bytes word.now) }
+    ensures ranges { IfSome result (λ taken. HasRanges taken.options) }
 {
     match taken.awaits {
         None => with_option(taken.options, word),
@@ -124,7 +156,9 @@ fn with_word(taken: Taken, word: &String) -> Option<Taken>
 
 /// An option's word, which stood nowhere before.
 fn with_option(options: Options, word: &String) -> Option<Taken>
-    ensures { result ≡ after_option options (string_bytes word.now) }
+    requires { HasRanges options }
+    ensures taken { result ≡ after_option options (string_bytes word.now) }
+    ensures ranges { IfSome result (λ taken. HasRanges taken.options) }
 {
     match word.as_str() {
         "--calls" if !options.calls => Some(Taken {
@@ -134,6 +168,17 @@ fn with_option(options: Options, word: &String) -> Option<Taken>
             },
             awaits: None,
         }),
+        "--journal" if !options.journal => Some(Taken {
+            options: Options {
+                journal: true,
+                ..options
+            },
+            awaits: None,
+        }),
+        "--workers" if options.workers.is_none() => Some(Taken {
+            options,
+            awaits: Some(Numbered::Workers),
+        }),
         "--cells" if options.cells.is_none() => Some(Taken {
             options,
             awaits: Some(Numbered::Cells),
@@ -142,35 +187,45 @@ fn with_option(options: Options, word: &String) -> Option<Taken>
     }
 }
 
-/// The number of an option: from 1 to 1,048,576 cells.
+/// The number of an option: from 1 to 64 workers, from 1 to 1,048,576 cells.
 fn with_number(options: Options, numbered: Numbered, word: &String) -> Option<Options>
-    ensures { result ≡ after_number options numbered (string_bytes word.now) }
+    requires { HasRanges options }
+    ensures options { result ≡ after_number options numbered (string_bytes word.now) }
+    ensures ranges { IfSome result HasRanges }
 {
+    let digits = word.as_str().as_bytes();
     match numbered {
-        Numbered::Cells => {
-            let cells = number_in(word.as_str().as_bytes())?;
-            Some(Options {
-                cells: Some(cells),
-                ..options
-            })
-        }
+        Numbered::Workers => Some(Options {
+            workers: Some(number_in(MOST_WORKERS, digits)?),
+            ..options
+        }),
+        Numbered::Cells => Some(Options {
+            cells: Some(number_in(MOST_CELLS, digits)?),
+            ..options
+        }),
     }
 }
 
-/// A number of cells in plain digits without a leading zero.
-fn number_in(digits: &[u8]) -> Option<u32>
-    ensures { result ≡ number_of MOST_CELLS digits.now }
+/// A number from 1 to the greatest, in plain digits without a leading zero.
+fn number_in(most: u32, digits: &[u8]) -> Option<u32>
+    requires some { 9 ≤ most }
+    requires small { most ≤ MOST_CELLS }
+    ensures number { result ≡ number_of most digits.now }
+    ensures range { IfSome result (λ number. (1 ≤ number) × (number ≤ most)) }
 {
-    match digits.first() {
-        None | Some(b'0') => None,
-        Some(_) => number_from(0, digits),
+    let (digit, rest) = digits.split_first()?;
+    if !(b'1'..=b'9').contains(digit) {
+        return None;
     }
+    number_from(most, u32::from(*digit - b'0'), rest)
 }
 
 /// The number that digits come to, after those before them.
-fn number_from(before: u32, digits: &[u8]) -> Option<u32>
-    requires { before ≤ MOST_CELLS }
-    ensures { result ≡ number_after MOST_CELLS before digits.now }
+fn number_from(most: u32, before: u32, digits: &[u8]) -> Option<u32>
+    requires some { most ≤ MOST_CELLS }
+    requires small { before ≤ most }
+    ensures number { result ≡ number_after most before digits.now }
+    ensures range { IfSome result (λ number. (before ≤ number) × (number ≤ most)) }
 {
     let Some((digit, rest)) = digits.split_first() else {
         return Some(before);
@@ -179,15 +234,16 @@ fn number_from(before: u32, digits: &[u8]) -> Option<u32>
         return None;
     }
     let number = 10 * before + u32::from(*digit - b'0');
-    if number > MOST_CELLS {
+    if number > most {
         return None;
     }
-    number_from(number, rest)
+    number_from(most, number, rest)
 }
 
 /// The order without options.
 fn when_alone(options: &[String]) -> Option<Order>
-    ensures { result ≡ alone (map string_bytes options.now) }
+    ensures order { result ≡ alone (map string_bytes options.now) }
+    ensures numbers { IfSome result HasNumbers }
 {
     match options {
         [] => Some(Order::Check),

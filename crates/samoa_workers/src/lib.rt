@@ -5,6 +5,6 @@ mod batch;
 mod crew;
 mod gate;
 
-pub use batch::{Batch, drain};
+pub use batch::{Batch, drain, drain_behind};
 pub use crew::run_batch;
 pub use gate::{Gate, NoGate};

@@ -1,24 +1,33 @@
-use Rattle.std.proofs.Common.{◌≡◌, ℕ, true, subst, sym}
-use Rattle.samoa_run.specs.declared.words.Order.{Order}
-use Rattle.samoa_run.specs.declared.words.Order.TheVariants.{Run}
-use Rattle.samoa_serial.specs.LimitedReport.{report_in_full}
-use Rattle.samoa_run.specs.Statuses.{number}
-use Rattle.samoa_run.specs.Serving.{Answers, AnswersOne}
-use Rattle.samoa_run.specs.Due.{IsOutput, has_cells, done_status, run_status}
+use Rattle.std.proofs.Common.{◌≡◌, ℕ, subst, sym, true, false}
 use Rattle.std.proofs.lemmas.Bool.{le-leb}
 use Rattle.samoa_model.specs.Cells.{need}
+use Rattle.samoa_serial.specs.LimitedReport.{report_in_full}
+use Rattle.samoa_run.specs.declared.words.Order.{Order}
+use Rattle.samoa_run.specs.declared.words.Order.TheVariants.{Run}
+use Rattle.samoa_run.specs.Statuses.{number}
+use Rattle.samoa_run.specs.Serving.{Answers, AnswersOne}
+use Rattle.samoa_run.specs.Due.{IsBegun, IsOutput, IsRunOutput, has_cells, done_status, run_status}
 use Rattle.samoa_run.proofs.OneOrder.{obeys_order, usage_order}
-use Rattle.samoa_run.proofs.Served.{the_one}
+use Rattle.samoa_run.proofs.Served.{only_report}
 use Rattle.samoa_run.proofs.top.serve.Goals as goal
 
 pub returns-in-Some-clause-report : goal.returns-in-Some-clause-report
 returns-in-Some-clause-report g c =
-    λ input script cells calls words left held enough.
-    let same : c.in-Some.order ≡ Run cells calls = cc in
+    λ input script workers cells calls words left held enough.
+    let same : c.in-Some.order ≡ Run workers cells calls false = cc in
     let P : Order → Type 0 = λ order. has_cells order script ≡ true
-    → AnswersOne (done_status order script) (IsOutput order script) (g.K.Sink.written c.args.sink.now) (g.K.Sink.written c.obey.new.sink) (number c.obey.result) in
+    → AnswersOne (done_status order script) (IsOutput order script) (IsBegun order script) (g.K.Sink.written c.args.sink.now) (g.K.Sink.written c.obey.new.sink) (number c.obey.result) in
     let S : ℕ → Type 0 = Answers (run_status script) (report_in_full script calls) (g.K.Sink.written c.args.sink.now) (g.K.Sink.written c.obey.new.sink) in
-    subst S (sym c.number.ensures) (the_one (report_in_full script calls) (subst P same (c.obey.ensures.done input script left held) (le-leb (need script) cells enough)))
+    subst S (sym c.number.ensures) (only_report workers cells script calls (subst P same (c.obey.ensures.done input script left held) (le-leb (need script) cells enough)))
+
+pub returns-in-Some-clause-journal : goal.returns-in-Some-clause-journal
+returns-in-Some-clause-journal g c =
+    λ input script workers cells calls words left held enough.
+    let same : c.in-Some.order ≡ Run workers cells calls true = cc in
+    let P : Order → Type 0 = λ order. has_cells order script ≡ true
+    → AnswersOne (done_status order script) (IsOutput order script) (IsBegun order script) (g.K.Sink.written c.args.sink.now) (g.K.Sink.written c.obey.new.sink) (number c.obey.result) in
+    let S : ℕ → Type 0 = AnswersOne (run_status script) (IsRunOutput true script calls) (IsBegun (Run workers cells calls true) script) (g.K.Sink.written c.args.sink.now) (g.K.Sink.written c.obey.new.sink) in
+    subst S (sym c.number.ensures) (subst P same (c.obey.ensures.done input script left held) (le-leb (need script) cells enough))
 
 pub returns-in-Some-clause-one_order : goal.returns-in-Some-clause-one_order
 returns-in-Some-clause-one_order g c = λ input script left held group. obeys_order input script c.obey.ensures left held group

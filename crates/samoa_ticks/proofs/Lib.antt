@@ -1,0 +1,12 @@
+pub mod Closing
+pub mod Histories
+pub mod Journals
+pub mod Kept
+pub mod Opened
+pub mod Packing
+pub mod Parts
+pub mod Progress
+pub mod RunOnce
+pub mod Standing
+pub mod Whole
+pub mod Written
