@@ -145,6 +145,44 @@ fn answers_words(rt: HostRuntime) -> Result<(), Fail> {
     Ok(())
 }
 
+/// The counter's script and these lines after it.
+fn with_lines(alloc: Global, lines: &str) -> Result<String, NoMemory> {
+    let mut input = String::from_str(alloc, COUNTER)?;
+    input.push_str(lines)?;
+    Ok(input)
+}
+
+/// The counter's journal, replayed whole and with each kind of fault.
+#[test]
+fn replays_journals(rt: HostRuntime) -> Result<(), Fail> {
+    let alloc = rt.alloc();
+    let cases = [
+        (
+            "\na 1\ne 1 0\nl 1\ne 1 0\nl 1\nr 1 0\nn 1\n",
+            0,
+            "E 1 1 0 e 7\nD 1 c 7\nZ 1 ok 7\nS 0 c 7 0 0 0\nN 1 1 0\n",
+        ),
+        (
+            "\na 1\ne 1 0\nl 1\ne 1 0\nl 1\nr 1 0\nn 1\nn 2\n",
+            7,
+            "! replay Trailing 8\n",
+        ),
+        ("\na 1\ne 1 0\nl 1\nl 1\n", 7, "! replay NotEnabled 4\n"),
+        ("\na 1\n", 7, "! replay Unfinished 1\n"),
+        ("\na 2\na 01\n", 7, "! replay BadLine 2\n"),
+        ("\na 2\n", 7, "! replay NotEnabled 1\n"),
+        ("", 7, "! replay Unfinished 1\n"),
+        ("}\n", 3, "! script NotJson\n"),
+    ];
+    for (lines, status, text) in cases {
+        let input = with_lines(alloc, lines)?;
+        let (found, written) = answer(&rt, alloc, &["replay"], &input, &[], &[], ENOUGH)?;
+        assert_eq!(rt; found, status);
+        assert_eq!(rt; written.as_slice(), text.as_bytes());
+    }
+    Ok(())
+}
+
 /// The nth write fails, for each n: the lines before it are written.
 #[test]
 fn stops_at_a_failed_write(rt: HostRuntime) -> Result<(), Fail> {

@@ -1,8 +1,9 @@
 mod Admitting
-mod Causes
+pub mod Causes
 mod Histories
 mod Knowing
 mod Making
+pub mod Numbers
 mod Out
 mod Replaying
 mod Runnable

@@ -1,7 +1,9 @@
 //! Laws of journals. Each function here has an empty body, and its contract says what is proved.
-ghost use Rattle.std.specs.Prelude.{◌≡◌, ◌≢◌, ℕ, List, take};
+ghost use Rattle.std.specs.Prelude.{◌≡◌, ◌≢◌, ℕ, All, List, take};
 ghost use Rattle.samoa_model.specs.declared.record.Step.{Step};
 ghost use Rattle.samoa_model.specs.declared.script.Script.{Script};
+ghost use Rattle.samoa_model.specs.Range.{IsInRange};
+ghost use Rattle.samoa_report.specs.StepFields.{FitsStep};
 ghost use Rattle.samoa_invariant.specs.Runs.{state};
 ghost use Rattle.samoa_journal.specs.Finished.{IsComplete, IsFinished, replayed};
 ghost use Rattle.samoa_replay.specs.Begun.{IsBegun};
@@ -27,4 +29,9 @@ pub fn complete_journals_have_no_fault()
 pub fn one_fault()
     ensures { (script : Script) (steps : List Step) (fault other : ReplayFault) → IsFaultOf script steps fault → IsFaultOf script steps other → fault ≢ Memory → other ≢ Memory
         → fault ≡ other }
+{}
+
+/// The numbers of a finished journal have 32 bits, so that its lines can be read.
+pub fn finished_journals_have_lines()
+    ensures { (script : Script) (steps : List Step) → IsInRange script → IsFinished script steps → All FitsStep steps }
 {}

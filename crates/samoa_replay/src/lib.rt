@@ -10,4 +10,6 @@ mod replay;
 
 pub use checking::check;
 pub use fault::ReplayFault;
-pub use laws::{complete_journals_have_no_fault, journals_begin, one_fault};
+pub use laws::{
+    complete_journals_have_no_fault, finished_journals_have_lines, journals_begin, one_fault,
+};

@@ -1,8 +1,11 @@
+pub mod Accepted
 pub mod Obeying
+pub mod Replays
 pub mod OneLine
 pub mod OneOrder
 pub mod OneWord
 pub mod Runnable
 pub mod Served
 pub mod Runs
+pub mod Splitting
 pub mod Treating

@@ -8,7 +8,11 @@ use Rattle.samoa_model.specs.declared.script.Script.{Script}
 use Rattle.samoa_serial.specs.LimitedReport.{report_in_full}
 use Rattle.samoa_grammar.specs.Held.{Holds}
 use Rattle.samoa_print.specs.Canonical.{tree_of}
+use Rattle.samoa_script.proofs.Apart.{answers_apart, one_script}
 use Rattle.samoa_script.proofs.Held.{held_valid}
+use Rattle.samoa_model.specs.declared.record.Step.{Step}
+use Rattle.samoa_replay.specs.declared.fault.ReplayFault.{ReplayFault}
+use Rattle.samoa_replay.specs.declared.fault.ReplayFault.TheVariants.{Memory, NotEnabled, Trailing, Unfinished}
 use Rattle.serde_json.specs.Data.{Data, object, Members}
 use Rattle.serde_json.specs.Written.{compact_text, members_text}
 use Rattle.samoa_laws.specs.trace.Group.{IsGroup}
@@ -21,6 +25,8 @@ use Rattle.samoa_laws.proofs.text.Texts.{Plain, both, literal, number as number_
 use Rattle.samoa_run.specs.declared.words.Order.{Order}
 use Rattle.samoa_run.specs.declared.words.Order.TheVariants.{Run, Serial, Check}
 use Rattle.samoa_run.specs.Due.{IsBegun, IsOutput, IsRunOutput, canonical_text, few_cells, has_cells, turned_away_line}
+use Rattle.samoa_run.specs.Replays as replays
+use Rattle.samoa_run.specs.Replays.{IsDueFor, IsDueForJournal, IsDueForSteps, Replays, Replies, bad_line, complete, faulty, in_lines, journal_fault_line, journal_part, refused, replay_line, script_part, silent, told, too_long}
 use Rattle.samoa_run.specs.Serving.{Answers, AnswersOne, Ends, IsDueOrFailed, Obeys}
 use Rattle.samoa_run.proofs.OneLine.{compact_lacks}
 use Rattle.samoa_run.proofs.Served.{one_of}
@@ -117,3 +123,45 @@ pub usage_order : {status : ℕ} {old new : Option (List ℕ)} (input : List ℕ
 usage_order {status} {old} {new} input script answers held group =
     let mute : IsMute (codes "! usage\n") = mute_begun 33 (codes " usage") (refl, (refl, (refl, refl))) (literal (codes "! usage") refl) in
     mute_answers_order script group (held_valid input script held).in_range old new (codes "! usage\n") mute answers
+
+-- ---- a replay
+replay_mute : (cause : List ℕ) (at : ℕ) → Plain cause → IsMute (replay_line cause at)
+replay_mute cause at plain =
+    let rest : List ℕ = codes " replay " ++ (cause ++ (codes " " ++ decimal at)) in
+    let whole : Plain (33 ∷ rest) = both (literal (codes "! replay ") refl) (both plain (both space (number_plain at))) in
+    let same : 33 ∷ (rest ++ codes "\n") ≡ replay_line cause at = ap (λ (t : List ℕ). codes "! replay " ++ t) (append_assoc cause (codes " " ++ decimal at) (codes "\n")) in
+    subst IsMute same (mute_begun 33 rest (refl, (refl, (refl, refl))) whole)
+
+journal_fault_mute : (fault : ReplayFault) → IsMute (journal_fault_line fault)
+journal_fault_mute (NotEnabled line) = replay_mute (codes "NotEnabled") line (literal (codes "NotEnabled") refl)
+journal_fault_mute (Unfinished comp) = replay_mute (codes "Unfinished") comp (literal (codes "Unfinished") refl)
+journal_fault_mute (Trailing line) = replay_mute (codes "Trailing") line (literal (codes "Trailing") refl)
+journal_fault_mute Memory = tt
+
+steps_tell : (script : Script) (steps : List Step) (due : ℕ) (text : List ℕ) → IsDueForSteps script steps due text → TellsAtMost script text
+steps_tell script steps due text (complete is p q) = the_report script false text q
+steps_tell script steps due text (faulty fault is other p q) = nothing (subst IsMute (sym q) (journal_fault_mute fault))
+
+journal_tells : (script : Script) (journal : List ℕ) (due : ℕ) (text : List ℕ) → IsDueForJournal script journal due text → TellsAtMost script text
+journal_tells script journal due text (bad_line line is p q) = nothing (subst IsMute (sym q) (replay_mute (codes "BadLine") line (literal (codes "BadLine") refl)))
+journal_tells script journal due text (in_lines steps lines is) = steps_tell script steps due text is
+
+replay_tells : (input : List ℕ) (script : Script) (due : ℕ) (text : List ℕ) → Holds (script_part input) script → IsDueFor input due text → TellsAtMost script text
+replay_tells input script due text held (too_long over p q) =
+    nothing (subst IsMute (sym q) (mute_begun 33 (codes " script TooLong") (refl, (refl, (refl, refl))) (literal (codes "! script TooLong") refl)))
+replay_tells input script due text held (refused fault within fails p q) = absurd (fails.1 (answers_apart (script_part input) script fault held fails.0))
+replay_tells input script due text held (replays.held also within there is) =
+    subst (λ (s : Script). TellsAtMost s text) (one_script (script_part input) also script there held) (journal_tells also (journal_part input) due text is)
+
+pub replay_order : {ends : Ends} {status : ℕ} (input : List ℕ) (script : Script) → Replays ends status → ends.left ≡ Some input → Holds (script_part input) script
+    → IsGroup script → AppendsOneOrder ends.written ends.written_after
+replay_order {ends} {status} input script replays left held group = go (replays.replies input left)
+  where
+    range : IsInRange script
+    range = (held_valid (script_part input) script held).in_range
+
+    go : Replies (IsDueFor input) ends.written ends.written_after status → AppendsOneOrder ends.written ends.written_after
+    go (told due text is answers) =
+        let tells : (t : List ℕ) → t ≡ text → TellsAtMost script t = λ t same. subst (λ (x : List ℕ). TellsAtMost script x) (sym same) (replay_tells input script due text held is) in
+        answers_order script group range ends.written ends.written_after {meant = λ (t : List ℕ). t ≡ text} {begun = λ (t : List ℕ). t ≡ text} tells tells (one_of text refl refl answers)
+    go (silent which none) = whole_order script group range ends.written ends.written_after [] (nothing tt) none

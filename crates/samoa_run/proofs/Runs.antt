@@ -1,5 +1,5 @@
 -- What a run on workers comes to.
-use Rattle.std.proofs.Common.{◌≡◌, ◌⊎◌, if◌then◌else◌, Result, inl, inr, refl, sym, ap, subst, ◌∙◌, arith, ℕ, Bool, true, false, List, [], ◌++◌, append-nil, Ok, Err}
+use Rattle.std.proofs.Common.{◌≡◌, ◌⊎◌, if◌then◌else◌, Result, inl, inr, refl, sym, ap, subst, ◌∙◌, arith, ℕ, Bool, true, false, List, [], append-nil, Ok, Err}
 use Rattle.std.specs.declared.option.Option.{Option}
 use Rattle.std.specs.Io.KnownBytes.{Appends}
 use Rattle.std.specs.Result.{IfOk, OnErr}

@@ -12,7 +12,7 @@ use Rattle.samoa_script.proofs.Apart.{one_script, answers_apart}
 use Rattle.samoa_run.specs.Readings.{IsFaultOf, IsReading}
 use Rattle.samoa_run.specs.declared.status.Status.{Status}
 use Rattle.samoa_run.specs.declared.status.Status.TheVariants as statuses
-use Rattle.samoa_run.specs.declared.status.Status.TheVariants.{Done, Usage, Refused, SourceFailed, SinkFailed, Limited}
+use Rattle.samoa_run.specs.declared.status.Status.TheVariants.{Done, Usage, Refused, SourceFailed, SinkFailed, NotReplayed, Limited}
 use Rattle.samoa_run.specs.declared.words.Order.{Order}
 use Rattle.samoa_run.specs.Statuses.{number}
 use Rattle.samoa_run.specs.declared.words.Order.TheVariants.{Run, Serial, Check}
@@ -22,11 +22,11 @@ use Rattle.samoa_run.specs.Due.{IsAnswerTo, IsBegun, IsOutput, IsRunOutput, IsPa
 use Rattle.samoa_run.specs.Serving.{Answers, AnswersOne, IsDueOrFailed}
 
 -- what was read is the input, where that is no longer than the limit
-read_all : (a b : Option (List ℕ)) (input bytes : List ℕ) → a ≡ Some input → Consumes a b bytes → (length bytes ≤ 1048576 → IsAtEnd b)
-    → length bytes ≤ 1048576 → input ≡ bytes
-read_all None b input bytes told taken end short = absurd (cc)
-read_all (Some x) None input bytes told taken end short = absurd taken
-read_all (Some x) (Some y) input bytes told taken end short =
+pub read_all : (limit : ℕ) (a b : Option (List ℕ)) (input bytes : List ℕ) → a ≡ Some input → Consumes a b bytes → (length bytes ≤ limit → IsAtEnd b)
+    → length bytes ≤ limit → input ≡ bytes
+read_all limit None b input bytes told taken end short = absurd (cc)
+read_all limit (Some x) None input bytes told taken end short = absurd taken
+read_all limit (Some x) (Some y) input bytes told taken end short =
     let same : input ≡ x = cc in
     same ∙ taken ∙ ap (λ (l : List ℕ). bytes ++ l) (end short) ∙ append-nil bytes
 
@@ -78,7 +78,7 @@ same_reading a b input bytes text r found told taken end same here there =
     either (inr is) = is
     either (inl short) =
         let as_many : length text ≡ length bytes = ap (λ (l : List ℕ). length l) same in
-        let whole : input ≡ text = read_all a b input bytes told taken end (omega (arith, short, as_many)) ∙ sym same in
+        let whole : input ≡ text = read_all 1048576 a b input bytes told taken end (omega (arith, short, as_many)) ∙ sym same in
         let R : List ℕ → Type 0 = λ l. IsReading l found in
         one_reading text found r (subst R whole there) here
 
@@ -90,7 +90,7 @@ reading_of_input a b input bytes text r told taken end same here = either (short
     either : (length text ≤ 1048576) ⊎ ((1048576 < length text) × (r ≡ Err TooLong)) → IsReading input r
     either (inl short) =
         let as_many : length text ≡ length bytes = ap (λ (l : List ℕ). length l) same in
-        let whole : input ≡ text = read_all a b input bytes told taken end (omega (arith, short, as_many)) ∙ sym same in
+        let whole : input ≡ text = read_all 1048576 a b input bytes told taken end (omega (arith, short, as_many)) ∙ sym same in
         let R : List ℕ → Type 0 = λ l. IsReading l r in
         subst R (sym whole) here
     either (inr long) =
@@ -120,7 +120,7 @@ pub number-same : (a b : Status) → number a ≡ number b → a ≡ b
 number-same a b e = sym (back a) ∙ (ap named e ∙ back b)
   where
     named : ℕ → Status
-    named n = cond (n == 0) Done (cond (n == 2) Usage (cond (n == 3) Refused (cond (n == 4) SourceFailed (cond (n == 5) SinkFailed (cond (n == 6) statuses.Memory Limited)))))
+    named n = cond (n == 0) Done (cond (n == 2) Usage (cond (n == 3) Refused (cond (n == 4) SourceFailed (cond (n == 5) SinkFailed (cond (n == 6) statuses.Memory (cond (n == 7) NotReplayed Limited))))))
 
     back : (s : Status) → named (number s) ≡ s
     back Done = refl
@@ -129,6 +129,7 @@ number-same a b e = sym (back a) ∙ (ap named e ∙ back b)
     back SourceFailed = refl
     back SinkFailed = refl
     back statuses.Memory = refl
+    back NotReplayed = refl
     back Limited = refl
 
 -- a text that is meant answers

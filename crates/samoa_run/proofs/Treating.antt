@@ -12,7 +12,7 @@ use Rattle.samoa_ticks.specs.declared.stop.Stop.{Stop}
 use Rattle.samoa_ticks.specs.declared.stop.Stop.TheVariants as stops
 use Rattle.samoa_ticks.proofs.Written.{begins_all}
 use Rattle.samoa_run.specs.declared.status.Status.{Status}
-use Rattle.samoa_run.specs.declared.status.Status.TheVariants.{Done, Limited, Memory, SinkFailed}
+use Rattle.samoa_run.specs.declared.status.Status.TheVariants.{Done, Memory, SinkFailed}
 use Rattle.samoa_run.specs.declared.words.Order.{Order}
 use Rattle.samoa_run.specs.declared.words.Order.TheVariants.{Check, Serial}
 use Rattle.samoa_run.specs.Statuses.{number}

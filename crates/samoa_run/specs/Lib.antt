@@ -5,3 +5,4 @@ pub mod Reading
 pub mod Readings
 pub mod Serving
 pub mod Runs
+pub mod Replays

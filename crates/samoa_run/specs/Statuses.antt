@@ -1,7 +1,7 @@
 -- The statuses as numbers.
 use Rattle.std.specs.Prelude.{ℕ}
 use Rattle.samoa_run.specs.declared.status.Status.{Status}
-use Rattle.samoa_run.specs.declared.status.Status.TheVariants.{Done, Usage, Refused, SourceFailed, SinkFailed, Memory, Limited}
+use Rattle.samoa_run.specs.declared.status.Status.TheVariants.{Done, Usage, Refused, SourceFailed, SinkFailed, Memory, NotReplayed, Limited}
 
 abbrev pub number : Status → ℕ
 number Done = 0
@@ -10,4 +10,5 @@ number Refused = 3
 number SourceFailed = 4
 number SinkFailed = 5
 number Memory = 6
+number NotReplayed = 7
 number Limited = 8

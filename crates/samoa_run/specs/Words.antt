@@ -1,5 +1,5 @@
 -- The words of the command line, and what they ask for.
-use Rattle.std.specs.Prelude.{ℕ, ◌≤◌, ◌+◌, ◌*◌, ◌-◌, ◌==◌, Bool, true, false, ◌&&◌, ◌||◌, not, List, [], ◌∷◌, nat_le, codes, bytes_eq, Option, Some, None, is_none, is_some, IfSome, option_map, option_and_then, if◌then◌else◌}
+use Rattle.std.specs.Prelude.{ℕ, ◌≡◌, ◌≤◌, ◌+◌, ◌*◌, ◌-◌, Bool, true, false, ◌&&◌, ◌||◌, not, List, [], ◌∷◌, nat_le, codes, bytes_eq, Option, Some, None, is_none, is_some, IfSome, option_map, option_and_then, if◌then◌else◌}
 use Rattle.samoa_run.specs.declared.words.TheConstants.{CELLS, MOST_CELLS, MOST_WORKERS, WORKERS}
 use Rattle.samoa_run.specs.declared.words.Numbered.{Numbered}
 use Rattle.samoa_run.specs.declared.words.Numbered.TheVariants.{Cells, Workers}
@@ -87,6 +87,16 @@ order_in (word ∷ options) =
     if bytes_eq word (codes "check") then when_alone options else
     None
 
+-- the one word that asks for a replay, which is no order
+abbrev pub is_replay : List (List ℕ) → Bool
+is_replay [] = false
+is_replay (word ∷ []) = bytes_eq word (codes "replay")
+is_replay (word ∷ option ∷ rest) = false
+
+-- the words ask for nothing
+abbrev pub AreOther : List (List ℕ) → Type 0
+AreOther words = (order_in words ≡ None) × (is_replay words ≡ false)
+
 -- the order that `serve_serial` takes
 abbrev pub serial_only : Order → Option Order
 serial_only (Serial calls) = Some (Serial calls)
@@ -96,6 +106,10 @@ serial_only _ = None
 abbrev pub check_only : Order → Option Order
 check_only Check = Some Check
 check_only _ = None
+
+-- the words ask for nothing that `check_only` does
+abbrev pub AreNoCheck : List (List ℕ) → Type 0
+AreNoCheck words = (option_and_then check_only (order_in words) ≡ None) × (is_replay words ≡ false)
 
 -- the numbers that were given are in their ranges
 abbrev pub HasRanges : Options → Type 0

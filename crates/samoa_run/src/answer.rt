@@ -138,7 +138,7 @@ pub fn refuse<K: Sink>(alloc: Global, fault: &ScriptFault, sink: &mut K) -> Stat
 
 /// Writes a text, and answers its status, or 5.
 pub fn write_text<K: Sink>(text: &[u8], status: Status, sink: &mut K) -> Status
-    requires { number status < 4 }
+    requires { (number status < 4) ⊎ (6 < number status) }
     ensures written { Answers (number status) text.now (K.written sink.old) (K.written sink.new) (number result) }
     ensures statuses { (result ≡ status) ⊎ (result ≡ Status.SinkFailed) }
     ensures sink_failed { result ≡ Status.SinkFailed → Rose (K.faults sink.old) (K.faults sink.new) }

@@ -1,6 +1,7 @@
 //! The lines of faults.
 ghost use Rattle.std.specs.Prelude.{◌≡◌, ◌++◌, codes, decimal, IfOk, OnOk};
 ghost use Rattle.samoa_run.specs.Due.{fault_line as line_of, fault_text, few_cells};
+ghost use Rattle.samoa_run.specs.Replays.{replay_line as line_of_replay};
 
 use itoa::Buffer;
 use samoa_model::{Name, NoMemory};
@@ -27,6 +28,19 @@ pub fn cells_line(alloc: Global, cells: u32, needed: u32) -> Result<Vec<u8>, NoM
     push(Buffer::new().format(cells).as_bytes(), &mut line)?;
     push(b" ", &mut line)?;
     push(Buffer::new().format(needed).as_bytes(), &mut line)?;
+    push(b"\n", &mut line)?;
+    Ok(line)
+}
+
+/// The line of a journal that isn't accepted: why, and at which line or computation.
+pub fn replay_line(alloc: Global, cause: &[u8], at: u32) -> Result<Vec<u8>, NoMemory>
+    ensures { IfOk result (λ line. line.items ≡ line_of_replay cause.now at) }
+{
+    let mut line = Vec::new(alloc);
+    push(b"! replay ", &mut line)?;
+    push(cause, &mut line)?;
+    push(b" ", &mut line)?;
+    push(Buffer::new().format(at).as_bytes(), &mut line)?;
     push(b"\n", &mut line)?;
     Ok(line)
 }

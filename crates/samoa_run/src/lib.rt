@@ -3,14 +3,17 @@
 
 mod answer;
 mod fault;
+mod laws;
 mod obey;
 mod reading;
+mod replaying;
 mod status;
 mod ticks;
 mod top;
 mod words;
 
-pub use reading::{LIMIT, read_input};
+pub use laws::{journals_of_runs_are_accepted, one_reply_is_due};
+pub use reading::{LIMIT, REPLAY_LIMIT, read_input};
 pub use samoa_workers::{Gate, NoGate};
 pub use ticks::run_ticks;
 pub use top::{check_only, serve, serve_serial};

@@ -13,7 +13,7 @@ ghost use Rattle.samoa_run.specs.Statuses.{number};
 ghost use Rattle.samoa_run.specs.Words.{HasNumbers};
 
 use crate::answer::{Asked, refuse, write_canonical, write_report, write_run};
-use crate::reading::read_input;
+use crate::reading::{LIMIT, read_input};
 use crate::status::Status;
 use crate::words::Order;
 use samoa_ends::{Sink, Source};
@@ -130,7 +130,7 @@ fn take_script<S: Source, K: Sink>(
         (record { left = S.left source.old; left_after = S.left source.new; source_faults = S.faults source.old; source_faults_after = S.faults source.new; written = K.written sink.old; written_after = K.written sink.new; sink_faults = K.faults sink.old; sink_faults_after = K.faults sink.new })
         (number status)) }
 {
-    let bytes = match read_input(alloc, source) {
+    let bytes = match read_input(alloc, LIMIT, source) {
         Ok(bytes) => bytes,
         Err(Stop::Failed) => return Err(Status::SourceFailed),
         Err(Stop::Memory) => return Err(Status::Memory),
@@ -142,7 +142,8 @@ fn take_script<S: Source, K: Sink>(
     }
 }
 
-fn is_memory(fault: &ScriptFault) -> bool
+/// Whether the fault is want of memory.
+pub fn is_memory(fault: &ScriptFault) -> bool
     ensures { result ≡ memory_is fault.now }
 {
     matches!(fault, ScriptFault::Memory)

@@ -8,19 +8,23 @@ use samoa_ends::Source;
 use samoa_ticks::Stop;
 use std::alloc::Global;
 
-/// The longest input.
+/// The longest input that is a script alone.
 pub const LIMIT: usize = 1_048_576;
 
+/// The longest input that is a script and a journal.
+pub const REPLAY_LIMIT: usize = 16_777_216;
+
 /// The input, to its end or to one byte past the limit.
-pub fn read_input<S: Source>(alloc: Global, source: &mut S) -> Result<Vec<u8>, Stop>
+pub fn read_input<S: Source>(alloc: Global, limit: usize, source: &mut S) -> Result<Vec<u8>, Stop>
+    requires { limit ≤ REPLAY_LIMIT }
     ensures read { IfOk result (λ bytes. Consumes (S.left source.old) (S.left source.new) bytes.items) }
-    ensures whole { IfOk result (λ bytes. length bytes.items ≤ LIMIT → IsAtEnd (S.left source.new)) }
+    ensures whole { IfOk result (λ bytes. length bytes.items ≤ limit → IsAtEnd (S.left source.new)) }
     ensures cause { StopsFor (S.faults source.old) (S.faults source.new) result }
 {
     let mut bytes = Vec::new(alloc);
     let mut piece = [0u8; 4096];
-    while bytes.len() <= LIMIT {
-        let room = piece.len().min(LIMIT + 1 - bytes.len());
+    while bytes.len() <= limit {
+        let room = piece.len().min(limit + 1 - bytes.len());
         if read_some(source, &mut piece[..room], &mut bytes)? == 0 {
             return Ok(bytes);
         }

@@ -17,6 +17,8 @@ pub enum Status {
     SinkFailed,
     /// There was no memory.
     Memory,
+    /// A journal has a bad line, or isn't a complete run of its script.
+    NotReplayed,
     /// The limit of computations ended a run, and all of it was written.
     Limited,
 }
@@ -33,6 +35,7 @@ impl Status {
             Status::SourceFailed => 4,
             Status::SinkFailed => 5,
             Status::Memory => 6,
+            Status::NotReplayed => 7,
             Status::Limited => 8,
         }
     }

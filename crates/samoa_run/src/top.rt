@@ -13,12 +13,14 @@ ghost use Rattle.samoa_run.specs.declared.words.Order.{Order as OrderValue};
 ghost use Rattle.samoa_run.specs.Due.{IsRunOutput, run_status};
 ghost use Rattle.samoa_run.specs.Serving.{Answers, AnswersOne, Obeys};
 ghost use Rattle.samoa_run.specs.Statuses.{number};
-ghost use Rattle.samoa_run.specs.Words.{order_in as order_of, check_only as only_check, serial_only as only_serial};
+ghost use Rattle.samoa_run.specs.Replays.{Replays, script_text};
+ghost use Rattle.samoa_run.specs.Words.{AreNoCheck, AreOther, is_replay, order_in as order_of, check_only as only_check, serial_only as only_serial};
 
 use crate::answer::write_text;
 use crate::obey::{obey, obey_check, obey_serial};
+use crate::replaying::obey_replay;
 use crate::status::Status;
-use crate::words::{Order, order_in};
+use crate::words::{Order, asks_replay, order_in};
 use samoa_ends::{Sink, Source};
 use samoa_micro::{Micro, Stock};
 use samoa_workers::Gate;
@@ -34,22 +36,24 @@ use std::thread::Threads;
 /// | `run [--workers n] [--cells n] [--calls] [--journal]` | reads a script, runs it on workers, and writes its report, with the lines of calls where asked, and after it the journal where asked |
 /// | `serial [--calls]` | the same, one computation after another |
 /// | `check` | reads a script, and writes its canonical text and a line feed |
+/// | `replay` | reads a script on one line and the lines of a journal after it, checks the journal, and writes the report |
 ///
-/// The source is read to its end, or to one byte past 1,048,576. A run has as many computations open at once as its cells
+/// The source is read to its end, or to one byte past 1,048,576; for a replay, past 16,777,216. A run has as many computations open at once as its cells
 /// are enough for (1 to 1,048,576, and 65,536 where none are given): 16 for each unit of a budget, and 16 more. The number
 /// of cells changes no byte of the report. At most 100,000 computations are run; where more would be admitted, the line
 /// `L 100000` ends the report, in place of the states and the totals. There are 1 to 64 workers, 4 where none are given;
 /// their number changes no byte of the report. The journal is the line `J` with the number of steps, and a line for each
-/// step; it is that of some whole run of the script.
+/// step; it is that of some whole run of the script. A replay takes the lines of the steps alone.
 ///
 /// | Status | Comes | What is written |
 /// |---|---|---|
 /// | 0 | all was done and written, and the limit didn't end the run | the report, and the journal where asked, or the text |
 /// | 2 | the words are others | `! usage` |
-/// | 3 | the input has a fault, or the cells are too few for it | the fault line |
+/// | 3 | the script has a fault, or the input is too long, or the cells are too few | the fault line |
 /// | 4 | a read failed | nothing |
 /// | 5 | a write failed | a prefix of what was to be written |
 /// | 6 | there was no memory | a prefix of what was to be written |
+/// | 7 | a journal that is replayed has a bad line, or isn't that of a whole run of its script which the limit doesn't end | the fault line |
 /// | 8 | the limit ended the run: computation 100,001 would be admitted | the report, which ends with the line of the limit, and the journal where asked |
 ///
 /// The sink is given the rest of one line at a time. The gate is called around each handler step of a run on workers.
@@ -82,20 +86,29 @@ pub fn serve<R: Wait + Threads + Sync, S: Source, K: Sink, G: Gate + Sync, B: Mi
         (record { left = S.left source.old; left_after = S.left source.new; source_faults = S.faults source.old; source_faults_after = S.faults source.new; written = K.written sink.old; written_after = K.written sink.new; sink_faults = K.faults sink.old; sink_faults_after = K.faults sink.new })
         result }
 
+    // The word asks for a replay. What is due is written: the report where the journal is a complete one, and else the line of
+    // the one fault, in the order script, bad line, other faults of the journal.
+    ensures replays { is_replay (map string_bytes words.now) ≡ true → Replays
+        (record { left = S.left source.old; left_after = S.left source.new; source_faults = S.faults source.old; source_faults_after = S.faults source.new; written = K.written sink.old; written_after = K.written sink.new; sink_faults = K.faults sink.old; sink_faults_after = K.faults sink.new })
+        result }
+
     // The input holds a script of the group stack. Whatever the words, at every status, what was appended to the sink tells
     // one order: of the deliveries that it tells of any two nodes one list begins the other, and at no node are two of the
     // same origin and number.
-    ensures one_order { (input : List ℕ) (script : ScriptValue) → S.left source.old ≡ Some input → Holds input script → IsGroup script
+    ensures one_order { (input : List ℕ) (script : ScriptValue) → S.left source.old ≡ Some input → Holds (script_text (map string_bytes words.now) input) script → IsGroup script
         → AppendsOneOrder (K.written sink.old) (K.written sink.new) }
 
     // The words are others: the fault line, nothing is read, and no memory is taken.
-    ensures usage { order_of (map string_bytes words.now) ≡ None
+    ensures usage { AreOther (map string_bytes words.now)
         → Answers 2 (codes "! usage\n") (K.written sink.old) (K.written sink.new) result }
-    ensures untouched { order_of (map string_bytes words.now) ≡ None
+    ensures untouched { AreOther (map string_bytes words.now)
         → ((result ≡ 2) ⊎ (result ≡ 5)) × (source.new ≡ source.old) }
-    ensures usage_only { result ≡ 2 → order_of (map string_bytes words.now) ≡ None }
+    ensures usage_only { result ≡ 2 → AreOther (map string_bytes words.now) }
     ensures sink_failed { result ≡ 5 → Rose (K.faults sink.old) (K.faults sink.new) }
 {
+    if asks_replay(words) {
+        return obey_replay(alloc, source, sink, stock).number();
+    }
     match order_in(words) {
         Some(order) => obey(rt, alloc, order, source, sink, stock, gate).number(),
         None => refuse_words(sink).number(),
@@ -139,27 +152,34 @@ pub fn serve_serial<S: Source, K: Sink, B: Micro>(
     }
 }
 
-/// Carries out `check`, and waits for nobody. All other words are status 2. The statuses are those of [`serve`].
+/// Carries out `check` and `replay`, and waits for nobody. All other words are status 2. The statuses are those of [`serve`].
 pub fn check_only<S: Source, K: Sink, B: Micro>(
     alloc: Global,
     words: &[String],
     source: &mut S,
     sink: &mut K,
-    _stock: Stock<B>,
+    stock: Stock<B>,
 ) -> u8
-    requires { HasEnough _stock }
+    requires { HasEnough stock }
 
     ensures obeys { (order : OrderValue) → option_and_then only_check (order_of (map string_bytes words.now)) ≡ Some order → Obeys order
         (record { left = S.left source.old; left_after = S.left source.new; source_faults = S.faults source.old; source_faults_after = S.faults source.new; written = K.written sink.old; written_after = K.written sink.new; sink_faults = K.faults sink.old; sink_faults_after = K.faults sink.new })
         result }
 
-    ensures usage { option_and_then only_check (order_of (map string_bytes words.now)) ≡ None
+    ensures replays { is_replay (map string_bytes words.now) ≡ true → Replays
+        (record { left = S.left source.old; left_after = S.left source.new; source_faults = S.faults source.old; source_faults_after = S.faults source.new; written = K.written sink.old; written_after = K.written sink.new; sink_faults = K.faults sink.old; sink_faults_after = K.faults sink.new })
+        result }
+
+    ensures usage { AreNoCheck (map string_bytes words.now)
         → Answers 2 (codes "! usage\n") (K.written sink.old) (K.written sink.new) result }
-    ensures untouched { option_and_then only_check (order_of (map string_bytes words.now)) ≡ None
+    ensures untouched { AreNoCheck (map string_bytes words.now)
         → ((result ≡ 2) ⊎ (result ≡ 5)) × (source.new ≡ source.old) }
-    ensures usage_only { result ≡ 2 → option_and_then only_check (order_of (map string_bytes words.now)) ≡ None }
+    ensures usage_only { result ≡ 2 → AreNoCheck (map string_bytes words.now) }
     ensures sink_failed { result ≡ 5 → Rose (K.faults sink.old) (K.faults sink.new) }
 {
+    if asks_replay(words) {
+        return obey_replay(alloc, source, sink, stock).number();
+    }
     match order_in(words) {
         Some(Order::Check) => obey_check(alloc, source, sink).number(),
         _ => refuse_words(sink).number(),

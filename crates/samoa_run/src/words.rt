@@ -1,6 +1,6 @@
 //! The words of the command line.
-ghost use Rattle.std.specs.Prelude.{◌≡◌, ◌≤◌, map, string_bytes, IfSome, Some};
-ghost use Rattle.samoa_run.specs.Words.{HasNumbers, HasRanges, order_in, run_with as run_of, serial_with as serial_of, when_alone as alone, options_in as options_of, options_from as options_after, with_word as after_word, with_option as after_option, with_number as after_number, unless_awaiting as unless_awaited, number_in as number_of, number_from as number_after};
+ghost use Rattle.std.specs.Prelude.{◌≡◌, ◌≤◌, map, string_bytes, IfSome, None, Some, true};
+ghost use Rattle.samoa_run.specs.Words.{HasNumbers, HasRanges, is_replay, order_in, run_with as run_of, serial_with as serial_of, when_alone as alone, options_in as options_of, options_from as options_after, with_word as after_word, with_option as after_option, with_number as after_number, unless_awaiting as unless_awaited, number_in as number_of, number_from as number_after};
 
 /// What the words ask for.
 #[derive(Clone, Copy, Debug, PartialEq, Eq)]
@@ -70,6 +70,17 @@ pub fn order_in(words: &[String]) -> Option<Order>
         "serial" => serial_with(options_in(rest)?),
         "check" => when_alone(rest),
         _ => None,
+    }
+}
+
+/// Whether the words ask for a replay.
+pub fn asks_replay(words: &[String]) -> bool
+    ensures replay { result ≡ is_replay (map string_bytes words.now) }
+    ensures no_order { result ≡ true → order_in (map string_bytes words.now) ≡ None }
+{
+    match words {
+        [word] => word.as_str() == "replay",
+        _ => false,
     }
 }
 

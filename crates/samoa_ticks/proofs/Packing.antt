@@ -1,5 +1,5 @@
 -- A part that was admitted together, run to its end and cleared away, and the parts before it.
-use Rattle.std.proofs.Common.{◌≡◌, refl, sym, ap, subst, ◌∙◌, arith, ℕ, zero, suc, ◌+◌, ◌<◌, ◌≤◌, Bool, true, false, if◌then◌else◌, nat_lt, List, [], ◌∷◌, ◌++◌, append_assoc, length, take, drop, slice_get, Some}
+use Rattle.std.proofs.Common.{◌≡◌, refl, sym, ap, subst, ◌∙◌, arith, ℕ, zero, suc, ◌+◌, ◌<◌, ◌≤◌, Bool, false, if◌then◌else◌, nat_lt, List, [], ◌∷◌, ◌++◌, append_assoc, length, take, drop, slice_get, Some}
 use Rattle.std.specs.List.{All}
 use Rattle.std.proofs.lemmas.List.Elements.{All-head, All-tail, All-take}
 use Rattle.samoa_model.specs.declared.record.Ext.{Ext}
@@ -10,7 +10,7 @@ use Rattle.samoa_serial.specs.Lists.{Each}
 use Rattle.samoa_serial.proofs.ListLaws.{each_weaker}
 use Rattle.samoa_invariant.specs.Runs.{Trace, ext_at, state, with_clear}
 use Rattle.samoa_core.specs.Later.{IsLater}
-use Rattle.samoa_journal.specs.Parts.{HasParts, IsLastLongest, IsPacked, IsPart, Part, admits, cells_for, exts_of, tick_of}
+use Rattle.samoa_journal.specs.Parts.{IsLastLongest, IsPacked, IsPart, Part, admits, cells_for, exts_of}
 use Rattle.samoa_journal.proofs.Parts.{IsMore, packed_more}
 use Rattle.samoa_journal.proofs.Opens.{admit_none}
 use Rattle.samoa_ledger.specs.declared.totals.Totals.{Totals}

@@ -15,7 +15,7 @@ use Rattle.samoa_serial.specs.Ticks.{admitted, admitted_by, is_limited, is_limit
 use Rattle.samoa_serial.proofs.LimitLaws.{admitted_by-none, is_limited_by-none}
 use Rattle.samoa_invariant.specs.Runs.{Trace, opening_trace, state, with_clear}
 use Rattle.samoa_core.specs.Since.{cleared_comps}
-use Rattle.samoa_net.specs.Gathered.{Gathered, IsPlanFor}
+use Rattle.samoa_net.specs.Gathered.{IsPlanFor}
 use Rattle.samoa_journal.specs.Parts.{IsPacked}
 use Rattle.samoa_journal.proofs.Parts.{packed_none}
 use Rattle.samoa_ledger.specs.declared.totals.Totals.{Totals}
@@ -25,7 +25,7 @@ use Rattle.samoa_ledger.proofs.Gathering.{gathered_next}
 use Rattle.samoa_ticks.specs.Running.{HasRun}
 use Rattle.samoa_ticks.specs.Stands.{HasPartRun, IsLeft, Stands, rest_of}
 use Rattle.samoa_ticks.specs.declared.report.Report.{Report}
-use Rattle.samoa_ticks.proofs.Histories.{last_admits, last_limits, limit_admits, limit_limits, past_few, tick_part, tick_passes_if}
+use Rattle.samoa_ticks.proofs.Histories.{last_admits, last_limits, limit_admits, limit_limits, tick_part, tick_passes_if}
 use Rattle.samoa_ticks.proofs.Packing.{packed_part, packed_tick}
 use Rattle.samoa_ticks.proofs.RunOnce.{HasEnded, has_ended, has_run_more}
 

@@ -1,6 +1,5 @@
 -- The journal of a run that came to its end.
-use Rattle.std.proofs.Common.{◌≡◌, ap, sym, subst, ◌∙◌, ℕ, ◌≤◌, Bool, false, List, [], length}
-use Rattle.samoa_model.specs.declared.record.Ext.{Ext}
+use Rattle.std.proofs.Common.{◌≡◌, ap, sym, subst, ◌∙◌, ◌≤◌, Bool, false, [], length}
 use Rattle.samoa_model.specs.declared.script.Script.{Script}
 use Rattle.samoa_serial.specs.Ticks.{admitted}
 use Rattle.samoa_invariant.specs.Runs.{IsRun, Trace, state}

@@ -3,7 +3,7 @@ use Rattle.std.proofs.lemmas.Bool.{le-leb}
 use Rattle.samoa_model.specs.Cells.{need}
 use Rattle.samoa_micro.proofs.Enough.{covers-valid}
 use Rattle.samoa_run.specs.declared.words.Order.TheVariants.{Run}
-use Rattle.samoa_run.proofs.Runs.{few_treats, run_treats}
+use Rattle.samoa_run.proofs.Runs.{run_treats}
 use Rattle.samoa_run.proofs.Treating.{memory_treats}
 use Rattle.samoa_run.proofs.answer.write_run.Goals as goal
 

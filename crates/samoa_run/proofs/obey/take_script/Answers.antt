@@ -1,4 +1,4 @@
-use Rattle.std.proofs.Common.{◌≤◌, Err, arith, refl}
+use Rattle.std.proofs.Common.{Err, arith, refl}
 use Rattle.samoa_script.proofs.Held.{held_valid}
 use Rattle.samoa_run.specs.Readings.{IsFaultOf}
 use Rattle.samoa_run.proofs.Obeying.{refused, stopped_by_memory}

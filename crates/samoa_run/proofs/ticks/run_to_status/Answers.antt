@@ -1,7 +1,5 @@
-use Rattle.std.proofs.Common.{◌≡◌, ◌++◌, Bool, ap, false, inl, inr, subst, true}
+use Rattle.std.proofs.Common.{◌≡◌, Bool, false, inl, inr, true}
 use Rattle.samoa_serial.specs.Ticks.{is_limited}
-use Rattle.samoa_ends.specs.Pieces.{AppendsPrefix}
-use Rattle.samoa_journal.specs.Finished.{IsFinished}
 use Rattle.samoa_ticks.proofs.Parts.{at_ok}
 use Rattle.samoa_run.proofs.Runs.{asked_part, asked_whole, at_err, at_ok_is, ended_part, ended_whole, some_part, stopped_with, unasked_whole}
 use Rattle.samoa_run.proofs.ticks.run_to_status.Goals as goal

@@ -1,4 +1,4 @@
-use Rattle.std.proofs.Common.{◌≡◌, Some, ap, refl, subst, sym}
+use Rattle.std.proofs.Common.{◌≡◌, Some, refl, subst, sym}
 use Rattle.std.proofs.Common.{ℕ, Bool}
 use Rattle.samoa_serial.specs.LimitedReport.{report_in_full}
 use Rattle.samoa_run.specs.declared.words.Order.TheVariants.{Serial}

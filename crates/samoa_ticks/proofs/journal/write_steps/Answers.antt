@@ -1,4 +1,3 @@
-use Rattle.std.proofs.KnownBytes.{Appends-nil}
 use Rattle.samoa_ticks.proofs.Journals.{all_lines, step_part}
 use Rattle.samoa_ticks.proofs.Parts.{on_err}
 use Rattle.samoa_ticks.proofs.journal.write_steps.Goals as goal

@@ -1,12 +1,11 @@
-use Rattle.std.proofs.Common.{◌≡◌, ◌∙◌, ◌<◌, ◌≤◌, ℕ, Bool, List, [], true, ap, arith, length, length-append, length-take, min, subst, sym, take}
+use Rattle.std.proofs.Common.{◌≡◌, ◌∙◌, ◌<◌, ℕ, List, [], ap, arith, subst, sym}
 use Rattle.std.specs.Io.KnownBytes.{Appends}
 use Rattle.std.proofs.KnownBytes.{Appends-nil}
 use Rattle.samoa_model.specs.declared.record.Ext.{Ext}
 use Rattle.samoa_invariant.specs.Runs.{Trace}
 use Rattle.samoa_ledger.specs.Written.{later_text}
 use Rattle.samoa_ledger.proofs.LaterText.{later_text-none}
-use Rattle.samoa_ticks.specs.Stands.{HasPartRun, rest_of}
-use Rattle.samoa_ticks.proofs.Histories.{part_few}
+use Rattle.samoa_ticks.specs.Stands.{HasPartRun}
 use Rattle.samoa_ticks.proofs.Parts.{on_err}
 use Rattle.samoa_ticks.proofs.Standing.{stands_first}
 use Rattle.samoa_ticks.proofs.Written.{fewer_left, report_part, report_whole, stood_part, text_more, text_part}

@@ -1,4 +1,4 @@
-use Rattle.std.proofs.Common.{◌≡◌, ◌-◌, ◌≤◌, [], length}
+use Rattle.std.proofs.Common.{◌-◌, ◌≤◌, [], length}
 use Rattle.std.specs.Io.KnownBytes.{Appends}
 use Rattle.samoa_ledger.specs.Written.{later_text}
 use Rattle.samoa_ticks.specs.Stands.{Stands}
