@@ -3,7 +3,7 @@
 
     python3 bench/steps.py ROW SIZE STEPS
 
-A row has what builds up the state, so many times; what must come before the steps; and the steps. What the microprotocol
+At most 160 steps; 10 of a row whose steps take away what was built up. A row has what builds up the state, so many times; what must come before the steps; and the steps. What the microprotocol
 calls goes to a handler that does nothing. `list` as the only word lists the rows, and a row alone tells the crate of its
 microprotocol.
 """
@@ -104,7 +104,7 @@ def script(row, size, steps):
     at = range(size + 1, size + steps + 1)
     events = [event for i in range(1, size + 1) for event in build(i)]
     # what comes before the steps comes in a script without them, too, so that a difference has the steps alone
-    events += [event for i in range(size + 1, size + 21) for event in before(i)]
+    events += [event for i in range(size + 1, size + 161) for event in before(i)]
     events += [FROM_THE_END[row](size, i) for i in range(1, steps + 1)] if step is None else [step(i) for i in at]
     ports = [f"port{i}" for i in range(PORTS[kind])]
     sink = {"name": "sink", "kind": "prog", "handlers": [{"name": "take", "code": []}]}
@@ -119,7 +119,7 @@ def script(row, size, steps):
 
 
 if sys.argv[1:] == ["list"]:
-    print("\n".join(ROWS))
+    print("\n".join(f"{10 if row in FROM_THE_END else 150} {row}" for row in ROWS))
 elif len(sys.argv) == 2:
     print("samoa_" + ROWS[sys.argv[1]][0])
 else:

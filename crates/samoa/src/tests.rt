@@ -6,9 +6,10 @@ use samoa_ends::{MemSink, MemSource};
 use samoa_kinds::{AnyKind, full_boxes};
 use samoa_micro::{Micro, Stock};
 use samoa_model::{Kind, Moment, NoMemory, Outcome, Setup, Words};
-use samoa_run::{NoGate, serve};
+use samoa_run::{Gate, NoGate, serve};
 use std::alloc::Global;
 use std::sync::Wait;
+use std::sync::atomic::{AtomicU64, Ordering};
 use std::test::Fail;
 use std::thread::Threads;
 
@@ -80,6 +81,20 @@ fn answer<R: Wait + Threads + Sync>(
     writes: &[u64],
     steps: u32,
 ) -> Result<(u8, Vec<u8>), NoMemory> {
+    answer_behind(rt, alloc, words, input, reads, writes, steps, &NoGate::new())
+}
+
+/// The same, behind a gate.
+fn answer_behind<R: Wait + Threads + Sync, G: Gate + Sync>(
+    rt: &R,
+    alloc: Global,
+    words: &[&str],
+    input: &str,
+    reads: &[u64],
+    writes: &[u64],
+    steps: u32,
+    gate: &G,
+) -> Result<(u8, Vec<u8>), NoMemory> {
     let mut asked = Vec::new(alloc);
     for word in words {
         asked.push(String::from_str(alloc, word)?)?;
@@ -88,8 +103,7 @@ fn answer<R: Wait + Threads + Sync>(
     let mut source = MemSource::new(bytes, Vec::from_slice(alloc, reads)?);
     let mut sink = MemSink::new(alloc, 4096, Vec::from_slice(alloc, writes)?)?;
     let stock = Stock::new(boxes(alloc, steps)?);
-    let gate = NoGate::new();
-    let status = serve(rt, alloc, &asked, &mut source, &mut sink, stock, &gate);
+    let status = serve(rt, alloc, &asked, &mut source, &mut sink, stock, gate);
     Ok((status, Vec::from_slice(alloc, sink.bytes())?))
 }
 
@@ -239,5 +253,64 @@ fn stops_where_a_step_finds_no_memory(rt: HostRuntime) -> Result<(), Fail> {
         assert_eq!(rt; status, 6);
         assert_eq!(rt; written.as_slice(), text.as_bytes());
     }
+    Ok(())
+}
+
+/// Two events at two microprotocols.
+const APART: &str =
+    r#"{"version":1,"nodes":1,"ticks":1,"micros":[{"name":"a","kind":"prog","handlers":[{"name":"h","code":[["done",0]]}]},{"name":"b","kind":"prog","handlers":[{"name":"h","code":[["done",0]]}]}],"decls":[{"name":"da","form":"set","micros":["a"]},{"name":"db","form":"set","micros":["b"]}],"events":[{"name":"ea","decl":"da","handlers":["a.h"]},{"name":"eb","decl":"db","handlers":["b.h"]}],"do":[{"tick":1,"node":0,"event":"ea","args":[]},{"tick":1,"node":0,"event":"eb","args":[]}]}"#;
+
+/// How often a held handler step looks at most.
+const LOOKS: u32 = 100_000_000;
+
+/// A gate that holds the handler steps of computation 1 until one of computation 2 was made, or until it has looked
+/// often enough.
+#[derive(Drop)]
+struct Meeting {
+    made: AtomicU64,
+    met: AtomicU64,
+}
+
+impl Gate for Meeting {
+    fn before(&self, comp: u32, _micro: u32) {
+        if comp != 1 {
+            return;
+        }
+        for _ in 0..LOOKS {
+            if self.made.load(Ordering::Acquire) == 1 {
+                self.met.store(1, Ordering::Release);
+                return;
+            }
+        }
+    }
+
+    fn after(&self, comp: u32, _micro: u32) {
+        if comp == 2 {
+            self.made.store(1, Ordering::Release);
+        }
+    }
+}
+
+/// A handler step of computation 2 is made while one of computation 1 is under way.
+#[test]
+fn overlaps_handler_steps(rt: HostRuntime) -> Result<(), Fail> {
+    let alloc = rt.alloc();
+    let meeting = Meeting {
+        made: AtomicU64::new(0),
+        met: AtomicU64::new(0),
+    };
+    let (status, written) = answer_behind(
+        &rt,
+        alloc,
+        &["run", "--workers", "2"],
+        APART,
+        &[],
+        &[],
+        ENOUGH,
+        &meeting,
+    )?;
+    assert_eq!(rt; status, 0);
+    assert_eq!(rt; written.as_slice(), "E 1 1 0 ea\nZ 1 ok\nE 2 1 0 eb\nZ 2 ok\nS 0 a 0 0 0 0\nS 0 b 0 0 0 0\nN 2 0 0\n".as_bytes());
+    assert_eq!(rt; meeting.met.load(Ordering::Acquire), 1);
     Ok(())
 }
