@@ -4,17 +4,11 @@ use Rattle.std.proofs.lemmas.Bool.{false≢true}
 use Rattle.samoa_model.specs.declared.record.Step.{Step}
 use Rattle.samoa_invariant.specs.Play.{Play}
 use Rattle.samoa_invariant.specs.State.{AllEnded, Core}
+use Rattle.samoa_journal.specs.Ended.{all_ended, all_to}
 use Rattle.samoa_invariant.specs.Runs.{IsRising, after_step, clear_at, cleared, is_clear, run_from}
 use Rattle.std.proofs.lemmas.Bool.{and_parts}
 
 -- ---- whether all have ended
-abbrev pub all_to : (ℕ → Bool) → ℕ → Bool
-all_to f zero = true
-all_to f (suc n) = all_to f n && f n
-
-abbrev pub all_ended : Core → Bool
-all_ended core = all_to core.ended core.count
-
 all_tells : (f : ℕ → Bool) (n : ℕ) → all_to f n ≡ true → (k : ℕ) → k < n → f k ≡ true
 all_tells f zero all k less = absurd (omega arith)
 all_tells f (suc n) all k less = go (λ below. all_tells f n (and_parts (all_to f n) (f n) all).0 k below) (eqb-cases k n)

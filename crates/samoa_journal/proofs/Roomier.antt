@@ -13,7 +13,8 @@ use Rattle.samoa_invariant.specs.State as model
 use Rattle.samoa_invariant.specs.State.{AllEnded, Core}
 use Rattle.samoa_invariant.specs.Runs.{CanMake, IsRising, IsRun, IsRunFrom, Trace, after_step, clear_at, cleared, is_clear, play, run_from, state}
 use Rattle.samoa_journal.specs.Finished.{IsFinished, OpensTicks, after, most_cells, replayed}
-use Rattle.samoa_journal.proofs.Ends.{all-ended, all_ended, ended_all, ends, ends_at, ends_here, ends_later, ends_rise}
+use Rattle.samoa_journal.specs.Ended.{all_ended}
+use Rattle.samoa_journal.proofs.Ends.{all-ended, ended_all, ends, ends_at, ends_here, ends_later, ends_rise}
 
 -- the core with other cells held
 abbrev holding : ℕ → Core → Core

@@ -39,13 +39,6 @@ report-is script calls =
     let exts : List Ext = admitted script in
     ap (λ (t : List ℕ). t ++ (if is_limited script then limit_text most_admitted else closing_text script exts)) (comps_text-all script calls exts)
 
--- where the limit ended it, that is the line of the limit
-pub report-limited : (script : Script) (calls : Bool) → true ≡ is_limited script
-    → report_in_full script calls ≡ later_text script calls [] (admitted script) ++ limit_text most_admitted
-report-limited script calls e =
-    report-is script calls
-    ∙ ap (λ (b : Bool). later_text script calls [] (admitted script) ++ (if b then limit_text most_admitted else closing_text script (admitted script))) (sym e)
-
 -- else the states that stand and the totals
 pub report-whole : (script : Script) (calls : Bool) → false ≡ is_limited script
     → report_in_full script calls ≡ later_text script calls [] (admitted script) ++ closing_text script (admitted script)

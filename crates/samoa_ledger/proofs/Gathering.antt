@@ -32,10 +32,6 @@ keeps_more before mid after xs ys first next all e =
     next ∙ (ap (λ (l : List Ext). take most_kept (l ++ ys)) (first all e)
     ∙ (take_first most_kept most_kept (all ++ xs) ys (omega arith) ∙ ap (λ (l : List Ext). take most_kept l) (append_assoc all xs ys)))
 
--- of no entry nothing is gathered
-pub gathers_none : (script : Script) (ext : Ext) (net : Gathered) → Gathers script ext [] net net
-gathers_none script ext net = record { tick = refl; own = refl; asked = keeps_none net.asked; sent = keeps_none net.sent }
-
 -- one entry more, in two lists
 one_entry : (script : Script) (tick : ℕ) (by : Entry → List Ext) (es : List Entry) (e : Entry)
     → filter (is_up script tick) (flat_map by es) ++ filter (is_up script tick) (by e) ≡ filter (is_up script tick) (flat_map by (es ++ e ∷ []))

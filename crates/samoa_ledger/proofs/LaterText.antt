@@ -33,12 +33,6 @@ pub later_text-one : (script : Script) (calls : Bool) (past : List Ext) (ext : E
 unfolding later_text
 later_text-one script calls past ext = append-nil (next_text script calls past ext)
 
--- one more
-pub later_text-one_more : (script : Script) (calls : Bool) (past xs : List Ext) (ext : Ext)
-    → later_text script calls past (xs ++ ext ∷ []) ≡ later_text script calls past xs ++ next_text script calls (past ++ xs) ext
-later_text-one_more script calls past xs ext =
-    later_text-append script calls past xs (ext ∷ []) ∙ ap (λ (text : List ℕ). later_text script calls past xs ++ text) (later_text-one script calls (past ++ xs) ext)
-
 -- the part of the report that the computations make, and what the later ones add to it
 pub comps_text-later : (script : Script) (calls : Bool) (past exts : List Ext)
     → comps_text script calls 1 (past ++ exts) (serial script (past ++ exts)).comps

@@ -31,7 +31,7 @@ use Rattle.samoa_replay.specs.Steady.{IsSteady, steady, swept, whole_play}
 use Rattle.samoa_replay.proofs.Histories.{LaterTicks, after_tick}
 use Rattle.samoa_replay.proofs.Making.{Begun, begun, counted-most, ext-same, stood, whole-is}
 use Rattle.samoa_replay.proofs.Out.{out-ext, out-other}
-use Rattle.samoa_replay.proofs.Standing.{past_is}
+use Rattle.samoa_ledger.proofs.Histories.{past_is}
 use Rattle.samoa_replay.proofs.Steady.{OpensAt, is_steady-can, is_steady-next, is_steady-opens, steady-next}
 
 -- plain more than the limit are admitted

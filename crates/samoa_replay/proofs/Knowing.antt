@@ -8,14 +8,7 @@ use Rattle.samoa_invariant.specs.Runs.{Trace}
 use Rattle.samoa_core.specs.Turns.{Going}
 use Rattle.samoa_replay.specs.declared.course.Course.{Course}
 use Rattle.samoa_replay.specs.Following.{IsReady, rest_of}
-use Rattle.samoa_replay.proofs.Histories.{part_named}
-
-first_of : (P : Ext → Type 0) (xs : List Ext) (ext : Ext) → All P xs → slice_get xs 0 ≡ Some ext → P ext
-first_of P [] ext all is = absurd (cc is)
-first_of P (x ∷ xs) ext all is = subst P (same x ext is) (All-head P x xs all)
-  where
-    same : (a b : Ext) → Some a ≡ Some b → a ≡ b
-    same a b e = cc e
+use Rattle.samoa_ledger.proofs.Histories.{first_of, part_named}
 
 pub known : (t : Trace) (course : Course) (turns : List Going) → IsReady t course turns → IsInRange t.script → (ext : Ext) → slice_get (rest_of course) 0 ≡ Some ext → IsExtOf t.script ext
 known t course turns r range ext there =

@@ -6,7 +6,7 @@ mod Making
 pub mod Numbers
 mod Out
 mod Replaying
-mod Runnable
+pub mod Runnable
 mod Standing
 mod Steady
 mod Stepping

@@ -19,7 +19,7 @@ use Rattle.samoa_invariant.specs.State as model
 use Rattle.samoa_invariant.specs.State.{AllEnded, CanEnd, CanEnter, CanLeave, CanRelease, Core, HasTurn, Quiet}
 use Rattle.samoa_invariant.specs.Runs.{CanMake, IsDue, IsRun, Trace, after_step, ext_at, no_ext, play, play_of, state, with_step}
 use Rattle.samoa_invariant.proofs.preservation.Slots.{put-else, put-here}
-use Rattle.samoa_invariant.proofs.representation.Extended.{made-same}
+use Rattle.samoa_invariant.proofs.representation.Extended.{end-same, enter-same, leaves-same, made-same, release-same}
 use Rattle.samoa_invariant.proofs.representation.Traces.{invariant, state-step}
 use Rattle.samoa_core.specs.Steps.{IsNoAdmit}
 use Rattle.samoa_core.specs.Turns.{Going}
@@ -52,40 +52,6 @@ longer : (script : Script) (exts rest : List Ext) → Begun script exts rest →
 longer script exts rest b = omega (arith, ap (λ (xs : List Ext). length xs) b.is, length-append exts (rest ++ b.later))
 
 -- ---- a step over fewer admissions is one over all, and back
-turn-same : (P Q : Play) (core : Core) (k p : ℕ) → P.node k ≡ Q.node k → HasTurn P core k p → HasTurn Q core k p
-turn-same P Q core k p node turn = record {
-  admitted = turn.admitted;
-  turn = subst (λ (v : ℕ). IsTurn (core.local v p) (core.from k v p) (core.private k v p)) node turn.turn;
-}
-
-enter-same : (P Q : Play) (core : Core) (k p : ℕ) → P.node k ≡ Q.node k → CanEnter P core k p → CanEnter Q core k p
-enter-same P Q core k p node can = record {
-  next = can.next;
-  not_out = can.not_out;
-  turn = turn-same P Q core k p node can.turn;
-  home = subst (λ (v : ℕ). core.out v p ≡ None) node can.home;
-  running = can.running;
-}
-
-leaves-same : (P Q : Play) (core : Core) (k : ℕ) → P.node k ≡ Q.node k → CanLeave P core k → CanLeave Q core k
-leaves-same P Q core k node can = record {
-  slot = can.slot;
-  out = record { admitted = can.out.admitted; out = subst (λ (v : ℕ). core.out v can.slot ≡ Some k) node can.out.out };
-}
-
-release-same : (P Q : Play) (core : Core) (k p : ℕ) → P.node k ≡ Q.node k → P.decl k ≡ Q.decl k → CanRelease P core k p → CanRelease Q core k p
-release-same P Q core k p node decl can = record {
-  turn = turn-same P Q core k p node can.turn;
-  quiet = subst (λ (d : Decl). Quiet d (core.table k) (core.comp k) p) decl can.quiet;
-}
-
-end-same : (P Q : Play) (core : Core) (k : ℕ) → P.node k ≡ Q.node k → P.decl k ≡ Q.decl k → CanEnd P core k → CanEnd Q core k
-end-same P Q core k node decl can = record {
-  admitted = can.admitted;
-  not_ended = can.not_ended;
-  idle = can.idle;
-  past = λ p w. subst (λ (v : ℕ). core.private k v p ≤ core.local v p) node (can.past p (subst (λ (d : Decl). 0 < weight d p) (sym decl) w));
-}
 
 module _ (script : Script) (xs ys : List Ext) (same : (k : ℕ) → k < length xs → ext_at xs k ≡ ext_at ys k) (core : Core) (most : core.count ≤ length xs) where
   abbrev P : Play

@@ -132,20 +132,6 @@ closed_out t u turns run later all is o = out-empty u turns later (subst (λ (x 
     go true = subst AllEnded (sym (state-clear t)) all
     go false = all
 
-pub ready_open : (t : Trace) (course : Course) (turns : List Going) → Follows t course turns → (AllEnded (state t) → ⊥) → IsReady t course turns
-ready_open t course turns f open_yet = record { follows = f; filled = λ all. absurd (open_yet all) }
-
-pub cleared_script : (t u : Trace) → u ≡ (if nat_lt 0 (state t).cells then with_clear t else t) → (u.script ≡ t.script) × (u.journal ≡ t.journal)
-cleared_script t u is = (ap (λ (x : Trace). x.script) is ∙ script_of (nat_lt 0 (state t).cells), ap (λ (x : Trace). x.journal) is ∙ journal_of (nat_lt 0 (state t).cells))
-  where
-    script_of : (b : Bool) → (if b then with_clear t else t).script ≡ t.script
-    script_of true = refl
-    script_of false = refl
-
-    journal_of : (b : Bool) → (if b then with_clear t else t).journal ≡ t.journal
-    journal_of true = refl
-    journal_of false = refl
-
 -- ---- the end
 module _ (t : Trace) (course : Course) (turns : List Going) (r : IsReady t course turns) (counted : (state t).count ≡ length t.exts) where
   abbrev script : Script
@@ -209,8 +195,6 @@ pub home_of : (t : Trace) → IsRun t → AllEnded (state t) → NothingOut (sta
 home_of t run all = all_home (play t) (state t) (invariant t run) all
 
 -- ---- a fault of a line is one of the journal
-within_line : (n : ℕ) (steps : List Step) → n < length steps → n + 1 ≤ length steps
-within_line n steps less = omega (arith, less)
 
 pub fault_of : (script : Script) (steps : List Step) (n line : ℕ) (step : Step) (fault : ReplayFault) → n < length steps → line ≡ n + 1 → take n steps ++ step ∷ [] ≡ take (n + 1) steps
     → IsFaultAfter script (take n steps) step line fault → IsFaultOf script steps fault

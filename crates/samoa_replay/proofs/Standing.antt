@@ -23,8 +23,9 @@ use Rattle.samoa_ledger.specs.Written.{AreTotals, later_text}
 use Rattle.samoa_ledger.proofs.Gathering.{gathered_next}
 use Rattle.samoa_ledger.proofs.LaterText.{later_text-append, later_text-none}
 use Rattle.samoa_replay.specs.declared.course.Course.{Course}
-use Rattle.samoa_replay.specs.Following.{EndsWith, IsLeft, IsOnCourse, past_of, rest_of}
-use Rattle.samoa_replay.proofs.Histories.{last_admits, last_limits, limit_admits, limit_limits, tick_part, tick_passes_if}
+use Rattle.samoa_ledger.specs.Left.{IsLeft}
+use Rattle.samoa_replay.specs.Following.{EndsWith, IsOnCourse, past_of, rest_of}
+use Rattle.samoa_ledger.proofs.Histories.{last_admits, last_limits, limit_admits, limit_limits, tick_part, tick_passes_if, past_is}
 
 -- ---- at first
 pub course_first : (script : Script) (cells : ℕ) (course : Course) → AreTotals script [] course.totals → HasGathered script [] course.net → course.batch.items ≡ [] → course.next ≡ 0
@@ -61,8 +62,6 @@ pub written_all : (t : Trace) (course : Course) → course.totals.comps ≡ leng
 written_all t course e = ap (λ (n : ℕ). take n t.exts) e ∙ take-length t.exts
 
 -- ---- where nothing is left of a tick
-pub past_is : (script : Script) (exts : List Ext) (tick : ℕ) (rest : List Ext) → IsLeft script exts tick rest → rest ≡ [] → exts ≡ admitted_by most_admitted script tick
-past_is script exts tick rest left none = sym (left.adds ∙ (ap (λ (xs : List Ext). exts ++ xs) none ∙ append-nil exts))
 
 -- ---- at the end
 pub record IsAtEnd (script : Script) (t : Trace) (course : Course) : Type 0 where

@@ -10,51 +10,14 @@ use Rattle.samoa_invariant.specs.State.{AllEnded, Core}
 use Rattle.samoa_invariant.specs.Runs.{CanMake, IsRising, IsRun, IsRunFrom, after_step, clear_at, cleared, is_clear, run_from, state}
 use Rattle.samoa_journal.specs.Finished.{IsFinished, IsFirstOfTick, after, replayed}
 use Rattle.samoa_replay.specs.Begun.{IsBegun}
-use Rattle.samoa_replay.specs.Steady.{AreMade, IsSteady, all_ended, all_to, steady, steady_from, swept, whole_play}
+use Rattle.samoa_journal.specs.Ended.{all_ended}
+use Rattle.samoa_journal.proofs.Ends.{all-ended, cleared_ended, ended_all}
+use Rattle.samoa_replay.specs.Steady.{AreMade, IsSteady, steady, steady_from, swept, whole_play}
 
 -- ---- whether all have ended
 both : (a b : Bool) → (a && b) ≡ true → (a ≡ true) × (b ≡ true)
 both true b e = (refl, e)
 both false b e = absurd (false≢true e)
-
-eqb-cases : (a b : ℕ) → (a ≡ b) ⊎ ((a == b) ≡ false)
-eqb-cases a b = at (a == b) refl
-  where
-    at : (c : Bool) → (a == b) ≡ c → (a ≡ b) ⊎ ((a == b) ≡ false)
-    at true e = inl (eqb-true a b e)
-    at false e = inr e
-
-all_tells : (f : ℕ → Bool) (n : ℕ) → all_to f n ≡ true → (k : ℕ) → k < n → f k ≡ true
-all_tells f zero all k less = absurd (omega arith)
-all_tells f (suc n) all k less = go (λ below. all_tells f n (both (all_to f n) (f n) all).0 k below) (eqb-cases k n)
-  where
-    go : (k < n → f k ≡ true) → (k ≡ n) ⊎ ((k == n) ≡ false) → f k ≡ true
-    go before (inl is) = ap f is ∙ (both (all_to f n) (f n) all).1
-    go before (inr other) = before (omega (arith, apart, less))
-      where
-        apart : k ≡ n → ⊥
-        apart is = false≢true (sym other ∙ eq-eqb k n is)
-
-tells_all : (f : ℕ → Bool) (n : ℕ) → ((k : ℕ) → k < n → f k ≡ true) → all_to f n ≡ true
-tells_all f zero all = refl
-tells_all f (suc n) all = rw (tells_all f n (λ k less. all k (omega (arith, less)))) (all n (omega arith))
-
-pub ended_all : (core : Core) → all_ended core ≡ true → AllEnded core
-ended_all core all = all_tells core.ended core.count all
-
-pub all-ended : (core : Core) → AllEnded core → all_ended core ≡ true
-all-ended core all = tells_all core.ended core.count all
-
-cleared_ended : (b : Bool) (core : Core) → all_ended (if b then cleared core else core) ≡ all_ended core
-cleared_ended true core = refl
-cleared_ended false core = refl
-
--- what was swept stands as before, but for the cells
-pub swept-all : (core : Core) → AllEnded (swept core) → AllEnded core
-swept-all core all = ended_all core (sym (cleared_ended (all_ended core) core) ∙ all-ended (swept core) all)
-
-pub all-swept : (core : Core) → AllEnded core → AllEnded (swept core)
-all-swept core all = ended_all (swept core) (cleared_ended (all_ended core) core ∙ all-ended core all)
 
 pub swept_is-cleared : (core : Core) → AllEnded core → swept core ≡ cleared core
 swept_is-cleared core all = ap (λ (b : Bool). if b then cleared core else core) (all-ended core all)
@@ -279,9 +242,6 @@ take_taken (suc k) (suc n) [] le = refl
 take_taken (suc k) (suc n) (x ∷ xs) le = ap (λ (ys : List Step). x ∷ ys) (take_taken k n xs (omega (arith, le)))
 
 -- ---- of a script
-pub steady-none : (script : Script) → steady script [] ≡ model.empty (whole_play script)
-unfolding steady
-steady-none script = refl
 
 pub steady-next : (script : Script) (steps : List Step) (step : Step) → steady script (steps ++ step ∷ []) ≡ swept (after_step (whole_play script) (steady script steps) step)
 unfolding steady

@@ -11,6 +11,7 @@ use Rattle.samoa_core.specs.Since.{cleared_comps}
 use Rattle.samoa_core.specs.Turns.{Going, IsAway}
 use Rattle.samoa_journal.specs.Finished.{most_cells}
 use Rattle.samoa_ledger.specs.Gathering.{HasGathered}
+use Rattle.samoa_ledger.specs.Left.{IsLeft}
 use Rattle.samoa_ledger.specs.Written.{AreTotals, later_text}
 use Rattle.samoa_replay.specs.declared.course.Course.{Course}
 use Rattle.samoa_replay.specs.Steady.{IsSteady, steady, swept}
@@ -22,11 +23,6 @@ rest_of course = drop course.next course.batch.items
 -- what is written
 abbrev pub past_of : Trace → Course → List Ext
 past_of t course = take course.totals.comps t.exts
-
--- the ticks so far admit these computations and then the rest, which is of the last of them
-pub record IsLeft (script : Script) (exts : List Ext) (tick : ℕ) (rest : List Ext) : Type 0 where
-  pub adds : admitted_by most_admitted script tick ≡ exts ++ rest
-  pub of_tick : All (λ (ext : Ext). ext.tick ≡ tick) rest
 
 -- the last of these is of the tick
 pub record EndsWith (exts : List Ext) (tick : ℕ) : Type 0 where

@@ -7,16 +7,8 @@ use Rattle.samoa_invariant.specs.Play.{Play}
 use Rattle.samoa_invariant.specs.State as model
 use Rattle.samoa_invariant.specs.State.{AllEnded, Core}
 use Rattle.samoa_invariant.specs.Runs.{CanMake, after_step, cleared, play_of}
+use Rattle.samoa_journal.specs.Ended.{all_ended}
 use Rattle.samoa_journal.specs.Finished.{IsFirstOfTick, most_cells}
-
--- whether each of the first n passes
-abbrev pub all_to : (ℕ → Bool) → ℕ → Bool
-all_to f zero = true
-all_to f (suc n) = all_to f n && f n
-
--- whether all that were admitted have ended
-abbrev pub all_ended : Core → Bool
-all_ended core = all_to core.ended core.count
 
 -- a core that is cleared if all have ended
 abbrev pub swept : Core → Core

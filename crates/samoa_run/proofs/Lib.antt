@@ -4,7 +4,6 @@ pub mod Replays
 pub mod OneLine
 pub mod OneOrder
 pub mod OneWord
-pub mod Runnable
 pub mod Served
 pub mod Runs
 pub mod Splitting

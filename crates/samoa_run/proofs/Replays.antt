@@ -72,9 +72,6 @@ one_for_journal script journal a b x y (in_lines steps lines due) (bad_line l on
 one_for_journal script journal a b x y (in_lines xs one due) (in_lines ys two other) =
     one_for_steps script xs a b x y due (subst (λ (s : List Step). IsDueForSteps script s b y) (sym (one_list journal xs ys one two)) other)
 
-one_held : (text : List ℕ) (s t : Script) → Holds text s → Holds text t → s ≡ t
-one_held text s t h k = one_script text s t h k
-
 pub one_is_due : (input : List ℕ) (a b : ℕ) (x y : List ℕ) → IsDueFor input a x → IsDueFor input b y → AreSame a b x y
 one_is_due input a b x y (too_long over p q) (too_long also r s) = both p q r s refl refl
 one_is_due input a b x y (too_long over p q) (refused fault within is r s) = absurd (omega (arith, over, within))
@@ -88,7 +85,7 @@ one_is_due input a b x y (held script within is due) (too_long over r s) = absur
 one_is_due input a b x y (held script within is due) (refused fault short fails r s) = absurd (fails.1 (answers_apart (script_part input) script fault is fails.0))
 one_is_due input a b x y (held s within is due) (held t short also other) =
     one_for_journal s (journal_part input) a b x y due
-    (subst (λ (script : Script). IsDueForJournal script (journal_part input) b y) (sym (one_held (script_part input) s t is also)) other)
+    (subst (λ (script : Script). IsDueForJournal script (journal_part input) b y) (sym (one_script (script_part input) s t is also)) other)
 
 -- ---- which statuses are due
 steps_reply : (script : Script) (steps : List Step) (a : ℕ) (x : List ℕ) → IsDueForSteps script steps a x → IsReply a

@@ -66,22 +66,6 @@ both_long text input r found within (inl short) other = inl short
 both_long text input r found within (inr long) (inl short) = absurd (omega (arith, within, long.0, short))
 both_long text input r found within (inr long) (inr same) = inr (same.1 ∙ sym long.1)
 
--- what was read reads as the input does
-pub same_reading : (a b : Option (List ℕ)) (input bytes text : List ℕ) (r found : Result Script ScriptFault) → a ≡ Some input → Consumes a b bytes
-    → (length bytes ≤ 1048576 → IsAtEnd b) → text ≡ bytes → IsReading text r → IsReading input found → found ≡ r
-same_reading a b input bytes text r found told taken end same here there =
-    let as_many : length text ≡ length bytes = ap (λ (l : List ℕ). length l) same in
-    let within : length text ≤ length input = omega (arith, no_longer a b input bytes told taken, as_many) in
-    either (both_long text input r found within (short_or_long text r here) (short_or_long input found there))
-  where
-    either : (length text ≤ 1048576) ⊎ (found ≡ r) → found ≡ r
-    either (inr is) = is
-    either (inl short) =
-        let as_many : length text ≡ length bytes = ap (λ (l : List ℕ). length l) same in
-        let whole : input ≡ text = read_all 1048576 a b input bytes told taken end (omega (arith, short, as_many)) ∙ sym same in
-        let R : List ℕ → Type 0 = λ l. IsReading l found in
-        one_reading text found r (subst R whole there) here
-
 -- the input reads as what was read, where that is no longer than the limit
 pub reading_of_input : (a b : Option (List ℕ)) (input bytes text : List ℕ) (r : Result Script ScriptFault) → a ≡ Some input → Consumes a b bytes
     → (length bytes ≤ 1048576 → IsAtEnd b) → text ≡ bytes → IsReading text r → IsReading input r

@@ -1,5 +1,4 @@
 pub mod Closing
-pub mod Histories
 pub mod Journals
 pub mod Kept
 pub mod Opened

@@ -52,19 +52,6 @@ opened_holds t u ext run is =
     = ap (λ (x : Trace). (state x).cells) is ∙ ap (λ (core : model.Core). core.cells) (state-admitted t ext run) in
     omega (arith, held)
 
--- none were, and then more
-pub opened_none : (t : Trace) → HasOpened t [] t
-opened_none t = record {
-  script = refl;
-  cells = refl;
-  exts = sym (append-nil t.exts);
-  clears = refl;
-  journal = sym (append-nil t.journal);
-  held = omega arith;
-  cleared = refl;
-  out = λ node p. refl;
-}
-
 -- the admissions and the cells of some, and then of others
 admits-append : (n : ℕ) (xs ys : List Ext) → admits n (xs ++ ys) ≡ admits n xs ++ admits (n + length xs) ys
 admits-append n [] ys = ap (λ (k : ℕ). admits k ys) (omega arith)

@@ -15,6 +15,7 @@ use Rattle.samoa_journal.proofs.Parts.{IsMore, packed_more}
 use Rattle.samoa_journal.proofs.Opens.{admit_none}
 use Rattle.samoa_ledger.specs.declared.totals.Totals.{Totals}
 use Rattle.samoa_ticks.specs.Running.{HasOpened, HasRun}
+use Rattle.samoa_ledger.proofs.Histories.{first_of}
 use Rattle.samoa_ticks.proofs.RunOnce.{clears}
 
 each_of : (P : Ext → Type 0) (xs : List Ext) → All P xs → Each P xs
@@ -98,13 +99,6 @@ later_part script cells tick (p ∷ []) next each ticks later =
 later_part script cells tick (p ∷ q ∷ parts) next each ticks later =
     later_part script cells tick (q ∷ parts) next each.1 (each_after (λ (ext : Ext). ext.tick ≤ tick) p.exts (exts_of (q ∷ parts)) ticks) later
 
-first_is : (P : Ext → Type 0) (xs : List Ext) (ext : Ext) → All P xs → slice_get xs 0 ≡ Some ext → P ext
-first_is P [] ext all is = absurd (cc is)
-first_is P (x ∷ xs) ext all is = subst P (same x ext is) (All-head P x xs all)
-  where
-    same : (a b : Ext) → Some a ≡ Some b → a ≡ b
-    same a b e = cc e
-
 pub packed_tick : (alone : Bool) (t : Trace) (next : List Ext) (tick : ℕ) → IsPacked alone t [] → Each (λ (ext : Ext). ext.tick ≤ tick) t.exts → All (λ (ext : Ext). ext.tick ≡ tick + 1) next
     → IsPacked alone t next
 packed_tick alone t next tick packed ticks all = record {
@@ -114,5 +108,5 @@ packed_tick alone t next tick packed ticks all = record {
   new_part = λ e ext is.
       later_part t.script t.cells tick packed.parts ext packed.in_parts.each
       (subst (λ (xs : List Ext). Each (λ (x : Ext). x.tick ≤ tick) xs) packed.in_parts.exts ticks)
-      (first_is (λ (x : Ext). x.tick ≡ tick + 1) next ext all is);
+      (first_of (λ (x : Ext). x.tick ≡ tick + 1) next ext all is);
 }

@@ -14,10 +14,6 @@ pub at_ok : {T E P : Type 0} (r : Result T E) (x : T) → r ≡ Ok x → OnOk r 
 at_ok (Ok y) x is p = p
 at_ok (Err e) x is p = absurd (cc)
 
--- all of the first part, and nothing after it
-pub part_start : (old new : Option (List ℕ)) (first more : List ℕ) → Appends old new first → AppendsPrefix old new (first ++ more)
-part_start old new first more a = record { piece = first; appended = a; prefix = record { rest = more; whole = refl } }
-
 -- a part of the first part
 pub part_more : (old new : Option (List ℕ)) (first more : List ℕ) → AppendsPrefix old new first → AppendsPrefix old new (first ++ more)
 part_more old new first more p =
@@ -41,8 +37,3 @@ part_after old mid new first more a p =
         whole = ap (λ l. first ++ l) p.prefix.whole ∙ sym (append_assoc first p.piece p.prefix.rest);
       };
     }
-
--- the same where the text is known under another name
-pub part_after_text : (old mid new : Option (List ℕ)) (first text more : List ℕ) → text ≡ more → Appends old mid first → AppendsPrefix mid new text → AppendsPrefix old new (first ++ more)
-part_after_text old mid new first text more e a p =
-    let P : List ℕ → Type 0 = AppendsPrefix mid new in part_after old mid new first more a (subst P e p)

@@ -53,21 +53,6 @@ before_is script past exts w n ended e = (
   ap (λ (k : ℕ). drop k w.exts) e ∙ (ap (λ (l : List Ext). drop (length past) l) ended.exts ∙ drop-append_seam past exts),
 )
 
-pub counted_before : (script : Script) (past exts : List Ext) (w : Trace) (totals : Totals) → HasEnded script past exts w → AreTotals script past totals
-    → AreTotals script (take totals.comps w.exts) totals
-counted_before script past exts w totals ended are =
-    let A : List Ext → Type 0 = λ l. AreTotals script l totals in subst A (sym (before_is script past exts w totals.comps ended are.comps).0) are
-
-pub gathered_before : (script : Script) (past exts : List Ext) (w : Trace) (n : ℕ) (net : Gathered) → HasEnded script past exts w → n ≡ length past → HasGathered script past net
-    → HasGathered script (take n w.exts) net
-gathered_before script past exts w n net ended e has = subst (λ (l : List Ext). HasGathered script l net) (sym (before_is script past exts w n ended e).0) has
-
-pub all_since : (P : Ext → Type 0) (script : Script) (past exts : List Ext) (w : Trace) (n : ℕ) → HasEnded script past exts w → n ≡ length past → All P exts → All P (drop n w.exts)
-all_since P script past exts w n ended e all = subst (λ (l : List Ext). All P l) (sym (before_is script past exts w n ended e).1) all
-
-pub gathered_with : (script : Script) (past exts : List Ext) (w : Trace) (net : Gathered) → HasEnded script past exts w → HasGathered script w.exts net → HasGathered script (past ++ exts) net
-gathered_with script past exts w net ended has = subst (λ (l : List Ext). HasGathered script l net) ended.exts has
-
 -- their part of the report
 pub text_of : (script : Script) (calls : Bool) (past exts : List Ext) (w : Trace) (totals : Totals) (none text : List ℕ) → HasEnded script past exts w → AreTotals script past totals → none ≡ []
     → text ≡ none ++ later_text script calls (take totals.comps w.exts) (drop totals.comps w.exts) → text ≡ later_text script calls past exts

@@ -23,9 +23,10 @@ use Rattle.samoa_ledger.specs.Gathering.{HasGathered}
 use Rattle.samoa_ledger.specs.Written.{AreTotals}
 use Rattle.samoa_ledger.proofs.Gathering.{gathered_next}
 use Rattle.samoa_ticks.specs.Running.{HasRun}
-use Rattle.samoa_ticks.specs.Stands.{HasPartRun, IsLeft, Stands, rest_of}
+use Rattle.samoa_ledger.specs.Left.{IsLeft}
+use Rattle.samoa_ticks.specs.Stands.{HasPartRun, Stands, rest_of}
 use Rattle.samoa_ticks.specs.declared.report.Report.{Report}
-use Rattle.samoa_ticks.proofs.Histories.{last_admits, last_limits, limit_admits, limit_limits, tick_part, tick_passes_if}
+use Rattle.samoa_ledger.proofs.Histories.{last_admits, last_limits, limit_admits, limit_limits, tick_part, tick_passes_if, past_is}
 use Rattle.samoa_ticks.proofs.Packing.{packed_part, packed_tick}
 use Rattle.samoa_ticks.proofs.RunOnce.{HasEnded, has_ended, has_run_more}
 
@@ -63,8 +64,6 @@ stands_first script core report is room counted gathered batch next tick net_tic
     none = ap (λ (xs : List Ext). drop report.next xs) batch ∙ ap (λ (n : ℕ). drop {A = Ext} n []) next
 
 -- ---- where nothing is left of a tick
-pub past_is : (script : Script) (past : List Ext) (tick : ℕ) (rest : List Ext) → IsLeft script past tick rest → rest ≡ [] → past ≡ admitted_by most_admitted script tick
-past_is script past tick rest left none = sym (left.adds ∙ (ap (λ (xs : List Ext). past ++ xs) none ∙ append-nil past))
 
 -- ---- at the end
 ended_early : (script : Script) (core : Trace) (report : Report) → Stands script core report → rest_of report ≡ [] → report.limited ≡ true → 0 < report.tick

@@ -16,8 +16,3 @@ whole_run script core report stands all run count few =
     let of_script : core.script ≡ script = stands.has_run.of_script in
     subst (λ (s : Script). IsFinished s core.journal) of_script
     (finished_run core run few (all ∙ ap admitted (sym of_script)) (parts_open report.alone core (rest_of report) run stands.packed) count stands.has_run.all)
-
-pub whole_packed : (script : Script) (core : Trace) (report : Report) → Stands script core report → report.alone ≡ false → IsPacked false core []
-whole_packed script core report stands together =
-    let packed : IsPacked false core (rest_of report) = subst (λ (b : Bool). IsPacked b core (rest_of report)) together stands.packed in
-    record { parts = packed.parts; in_parts = packed.in_parts; longest = packed.longest; new_part = λ e ext is. absurd (cc) }

@@ -17,7 +17,7 @@ use Rattle.samoa_ticks.specs.declared.report.Report.{Report}
 use Rattle.samoa_ticks.specs.Running.{end_text}
 use Rattle.samoa_ticks.specs.Stands.{HasPartRun, Stands, rest_of}
 use Rattle.samoa_ticks.proofs.Closing.{report_begun}
-use Rattle.samoa_ticks.proofs.Histories.{part_few}
+use Rattle.samoa_ledger.proofs.Histories.{part_few}
 use Rattle.samoa_ticks.proofs.Parts.{part_after, part_more}
 use Rattle.samoa_ticks.proofs.RunOnce.{HasEnded, before_is, has_ended}
 

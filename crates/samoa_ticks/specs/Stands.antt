@@ -11,17 +11,13 @@ use Rattle.samoa_core.specs.Later.{IsLater}
 use Rattle.samoa_core.specs.Since.{cleared_comps}
 use Rattle.samoa_journal.specs.Parts.{IsPacked}
 use Rattle.samoa_ledger.specs.Gathering.{HasGathered}
+use Rattle.samoa_ledger.specs.Left.{IsLeft}
 use Rattle.samoa_ticks.specs.declared.report.Report.{Report}
 use Rattle.samoa_ticks.specs.Running.{HasOpened, HasRun}
 
 -- what is still to be run of the tick at hand
 abbrev pub rest_of : Report → List Ext
 rest_of report = drop report.next report.batch.items
-
--- the ticks so far admit these computations and then the rest, which is of the last of them
-pub record IsLeft (script : Script) (past : List Ext) (tick : ℕ) (rest : List Ext) : Type 0 where
-  pub adds : admitted_by most_admitted script tick ≡ past ++ rest
-  pub of_tick : All (λ (ext : Ext). ext.tick ≡ tick) rest
 
 -- all that the core was given has ended, is written and gathered, and was cleared away; the rest of the tick is left
 pub record Stands (script : Script) (core : Trace) (report : Report) : Type 0 where

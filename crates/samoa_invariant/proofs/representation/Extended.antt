@@ -77,7 +77,7 @@ turn-same P Q core k p node turn = record {
   turn = subst (λ (v : ℕ). IsTurn (core.local v p) (core.from k v p) (core.private k v p)) node turn.turn;
 }
 
-enter-same : (P Q : Play) (core : Core) (k p : ℕ) → P.node k ≡ Q.node k → CanEnter P core k p → CanEnter Q core k p
+pub enter-same : (P Q : Play) (core : Core) (k p : ℕ) → P.node k ≡ Q.node k → CanEnter P core k p → CanEnter Q core k p
 enter-same P Q core k p node can = record {
   next = can.next;
   not_out = can.not_out;
@@ -86,19 +86,19 @@ enter-same P Q core k p node can = record {
   running = can.running;
 }
 
-leaves-same : (P Q : Play) (core : Core) (k : ℕ) → P.node k ≡ Q.node k → model.CanLeave P core k → model.CanLeave Q core k
+pub leaves-same : (P Q : Play) (core : Core) (k : ℕ) → P.node k ≡ Q.node k → model.CanLeave P core k → model.CanLeave Q core k
 leaves-same P Q core k node can = record {
   slot = can.slot;
   out = record { admitted = can.out.admitted; out = subst (λ (v : ℕ). core.out v can.slot ≡ Some k) node can.out.out };
 }
 
-release-same : (P Q : Play) (core : Core) (k p : ℕ) → P.node k ≡ Q.node k → P.decl k ≡ Q.decl k → CanRelease P core k p → CanRelease Q core k p
+pub release-same : (P Q : Play) (core : Core) (k p : ℕ) → P.node k ≡ Q.node k → P.decl k ≡ Q.decl k → CanRelease P core k p → CanRelease Q core k p
 release-same P Q core k p node decl can = record {
   turn = turn-same P Q core k p node can.turn;
   quiet = subst (λ (d : Decl). Quiet d (core.table k) (core.comp k) p) decl can.quiet;
 }
 
-end-same : (P Q : Play) (core : Core) (k : ℕ) → P.node k ≡ Q.node k → P.decl k ≡ Q.decl k → CanEnd P core k → CanEnd Q core k
+pub end-same : (P Q : Play) (core : Core) (k : ℕ) → P.node k ≡ Q.node k → P.decl k ≡ Q.decl k → CanEnd P core k → CanEnd Q core k
 end-same P Q core k node decl can = record {
   admitted = can.admitted;
   not_ended = can.not_ended;

@@ -2,7 +2,7 @@ use Rattle.std.proofs.Common.{◌≤◌, arith, subst, sym}
 use Rattle.samoa_model.specs.Cells.{need}
 use Rattle.samoa_invariant.specs.Runs.{Trace}
 use Rattle.samoa_micro.proofs.Enough.{covers-valid}
-use Rattle.samoa_run.proofs.Runnable.{few_needed}
+use Rattle.samoa_replay.proofs.Runnable.{few_needed}
 use Rattle.samoa_run.proofs.Treating.{serial_treats, sink_cause}
 use Rattle.samoa_run.proofs.answer.write_report.Goals as goal
 

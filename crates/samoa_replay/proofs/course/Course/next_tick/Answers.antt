@@ -1,7 +1,7 @@
 use Rattle.std.proofs.Common.{arith, refl}
 use Rattle.samoa_replay.specs.Following.{rest_of}
-use Rattle.samoa_replay.proofs.Histories.{past_few}
-use Rattle.samoa_replay.proofs.Standing.{course_next, past_is}
+use Rattle.samoa_ledger.proofs.Histories.{past_few, past_is}
+use Rattle.samoa_replay.proofs.Standing.{course_next}
 use Rattle.samoa_replay.proofs.course.Course.next_tick.Goals as goal
 
 pub overflow_sub-room : goal.overflow_sub-room

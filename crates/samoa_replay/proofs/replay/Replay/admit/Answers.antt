@@ -3,7 +3,7 @@ use Rattle.std.proofs.lemmas.Bool.{false≢true}
 use Rattle.samoa_core.specs.Since.{cleared_comps}
 use Rattle.samoa_replay.specs.Following.{rest_of}
 use Rattle.samoa_replay.proofs.Admitting.{admit_made, few, none_refused, number_refused, wide_refused}
-use Rattle.samoa_replay.proofs.Histories.{part_few}
+use Rattle.samoa_ledger.proofs.Histories.{part_few}
 use Rattle.samoa_replay.proofs.Knowing.{known}
 use Rattle.samoa_replay.proofs.replay.Replay.admit.Goals as goal
 

@@ -1,6 +1,6 @@
 use Rattle.std.proofs.Common.{arith}
 use Rattle.samoa_replay.specs.Following.{rest_of}
-use Rattle.samoa_replay.proofs.Histories.{part_few}
+use Rattle.samoa_ledger.proofs.Histories.{part_few}
 use Rattle.samoa_replay.proofs.Making.{counted-most}
 use Rattle.samoa_replay.proofs.replay.Replay.least_unended.Goals as goal
 

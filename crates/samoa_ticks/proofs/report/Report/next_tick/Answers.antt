@@ -1,7 +1,7 @@
 use Rattle.std.proofs.Common.{arith, refl}
 use Rattle.samoa_ticks.specs.Stands.{rest_of}
-use Rattle.samoa_ticks.proofs.Histories.{past_few}
-use Rattle.samoa_ticks.proofs.Standing.{past_is, stands_next}
+use Rattle.samoa_ledger.proofs.Histories.{past_few, past_is}
+use Rattle.samoa_ticks.proofs.Standing.{stands_next}
 use Rattle.samoa_ticks.proofs.report.Report.next_tick.Goals as goal
 
 pub overflow_sub-room : goal.overflow_sub-room

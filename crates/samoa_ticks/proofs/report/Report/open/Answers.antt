@@ -6,7 +6,7 @@ use Rattle.samoa_model.specs.declared.record.Ext.{Ext}
 use Rattle.samoa_model.specs.declared.script.Script.{Script}
 use Rattle.samoa_model.specs.Range.{IsExtOf}
 use Rattle.samoa_ticks.specs.Stands.{rest_of}
-use Rattle.samoa_ticks.proofs.Histories.{part_few, part_named}
+use Rattle.samoa_ledger.proofs.Histories.{part_few, part_named}
 use Rattle.samoa_ticks.proofs.Standing.{at_end}
 use Rattle.samoa_ticks.proofs.report.Report.open.Goals as goal
 

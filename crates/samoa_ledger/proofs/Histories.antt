@@ -1,35 +1,34 @@
--- What a script admits, tick by tick, and what is written of it.
-use Rattle.std.proofs.Common.{◌≡◌, ℕ, Bool, ◌+◌, ◌-◌, ◌<◌, ◌≤◌, true, false, min, filter, List, [], ◌∷◌, ◌++◌, length, take, drop, sym, ap, ◌∙◌, subst, arith, length-append, nat_lt}
+-- What a script admits, tick by tick.
+use Rattle.std.proofs.Common.{refl, inl, inr, ◌⊎◌, zero, suc, append_assoc, append-nil, ◌≡◌, ℕ, Bool, ◌+◌, ◌-◌, ◌<◌, ◌≤◌, true, false, min, filter, List, [], ◌∷◌, ◌++◌, length, take, sym, ap, ◌∙◌, subst, arith, length-append, nat_lt}
 use Rattle.std.specs.List.{All}
-use Rattle.std.specs.declared.option.Option.{Option}
-use Rattle.std.specs.Io.KnownBytes.{Appends}
-use Rattle.std.proofs.Math.Seq.{drop-append_seam}
-use Rattle.std.proofs.KnownBytes.{Appends-nil, Appends-trans}
 use Rattle.std.proofs.lemmas.List.{take_min}
 use Rattle.std.proofs.lemmas.List.Elements.{All-cons, All-nil}
 use Rattle.samoa_model.specs.declared.record.Ext.{Ext}
 use Rattle.samoa_model.specs.declared.script.Script.{Script}
 use Rattle.samoa_model.specs.Range.{IsInRange, IsExtOf}
-use Rattle.samoa_serial.specs.Batch.{is_up}
+use Rattle.std.proofs.lemmas.Grind.{common_steps}
+use Rattle.std.proofs.lemmas.Bool.Decides.{leb_tells}
+use Rattle.samoa_serial.specs.Batch.{batch_after, is_up}
+use Rattle.samoa_serial.specs.SerialRun.{serial}
+use Rattle.samoa_serial.proofs.KeptLaws.{past_stays}
+use Rattle.samoa_serial.proofs.ListLaws.{each_append}
 use Rattle.samoa_serial.specs.History.{batch}
 use Rattle.samoa_serial.specs.Lists.{Each}
-use Rattle.samoa_serial.specs.Ticks.{IsBatch, admitted, admitted_by, is_limited, is_limited_by, most_admitted}
-use Rattle.samoa_serial.proofs.LimitLaws.{admitted_by-begins, admitted_by-few, admitted_by-known, admitted_by-none, admitted_to-begins, admitted_to-is, is_limited_to-is, passed_admits, passed_limits, tick_admits, tick_passes, tick_ticks}
-use Rattle.samoa_ends.specs.Pieces.{AppendsPrefix}
+use Rattle.samoa_serial.specs.Ticks.{IsBatch, history_within, admitted, admitted_by, is_limited, is_limited_by, most_admitted}
+use Rattle.samoa_serial.proofs.LimitLaws.{admitted_by-few, admitted_by-known, admitted_to-is, is_limited_to-is, passed_admits, passed_limits, tick_admits, tick_passes, tick_ticks}
 use Rattle.samoa_net.specs.Gathered.{Gathered}
 use Rattle.samoa_ledger.specs.Gathering.{HasGathered}
-use Rattle.samoa_ticks.specs.Stands.{IsLeft}
+use Rattle.samoa_ledger.specs.Left.{IsLeft}
 use Rattle.samoa_ledger.proofs.Gathering.{batch_is}
-use Rattle.samoa_ledger.specs.Written.{later_text}
-use Rattle.samoa_ledger.proofs.LaterText.{later_text-append, later_text-none}
-use Rattle.samoa_ticks.proofs.Parts.{part_after, part_more}
+use Rattle.std.proofs.lemmas.List.Elements.{All-head}
+use Rattle.std.proofs.Common.{Some, slice_get}
 
 -- what holds of each by recursion holds of all
 all_of : {A : Type 0} (P : A → Type 0) (xs : List A) → Each P xs → All P xs
 all_of P [] each = All-nil P
 all_of P (x ∷ xs) each = All-cons P x xs each.0 (all_of P xs each.1)
 
-each_after : {A : Type 0} (P : A → Type 0) (xs ys : List A) → Each P (xs ++ ys) → Each P ys
+pub each_after : {A : Type 0} (P : A → Type 0) (xs ys : List A) → Each P (xs ++ ys) → Each P ys
 each_after P [] ys all = all
 each_after P (x ∷ xs) ys all = each_after P xs ys all.1
 
@@ -96,56 +95,6 @@ part_named script past tick part range is =
     all_of (IsExtOf script) part (each_after (IsExtOf script) past part
     (subst (λ (xs : List Ext). Each (IsExtOf script) xs) is.adds (admitted_by-known most_admitted script tick range)))
 
--- what a tick admits after these
-abbrev pub added : Script → List Ext → ℕ → List Ext
-added script past tick = drop (length past) (admitted_by most_admitted script tick)
-
-pub part_added : (script : Script) (past : List Ext) (tick : ℕ) (part : List Ext) → IsLeft script past tick part → part ≡ added script past tick
-part_added script past tick part is = sym (ap (λ (xs : List Ext). drop (length past) xs) is.adds ∙ drop-append_seam past part)
-
--- with what a tick adds, the computations so far are those of one tick more
-pub added_is : (script : Script) (before : ℕ) (past : List Ext) → past ≡ admitted_by most_admitted script before
-    → admitted_by most_admitted script (before + 1) ≡ past ++ added script past (before + 1)
-added_is script before past is =
-    let begins = admitted_by-begins most_admitted script before 1 in
-    let next : 1 + before ≡ before + 1 = omega arith in
-    let whole : admitted_by most_admitted script (before + 1) ≡ past ++ begins.rest
-    = ap (λ (k : ℕ). admitted_by most_admitted script k) (sym next) ∙ (begins.is ∙ ap (λ (xs : List Ext). xs ++ begins.rest) (sym is)) in
-    whole ∙ ap (λ (xs : List Ext). past ++ xs) (sym (ap (λ (xs : List Ext). drop (length past) xs) whole ∙ drop-append_seam past begins.rest))
-
-text_added : (script : Script) (calls : Bool) (before : ℕ) (past : List Ext) → past ≡ admitted_by most_admitted script before
-    → later_text script calls [] (admitted_by most_admitted script (before + 1))
-    ≡ later_text script calls [] (admitted_by most_admitted script before) ++ later_text script calls past (added script past (before + 1))
-text_added script calls before past is =
-    ap (later_text script calls []) (added_is script before past is)
-    ∙ (later_text-append script calls [] past (added script past (before + 1))
-    ∙ ap (λ (xs : List Ext). later_text script calls [] xs ++ later_text script calls past (added script past (before + 1))) is)
-
--- nothing was written before the first tick
-pub wrote_none : (script : Script) (calls : Bool) (old : Option (List ℕ)) → Appends old old (later_text script calls [] (admitted_by most_admitted script 0))
-wrote_none script calls old =
-    let W : List ℕ → Type 0 = Appends old old in
-    subst W (sym (ap (later_text script calls []) (admitted_by-none most_admitted script) ∙ later_text-none script calls [])) (Appends-nil old)
-
--- one tick more was written
-pub wrote_tick : (script : Script) (calls : Bool) (before : ℕ) (past : List Ext) (old mid new : Option (List ℕ)) → past ≡ admitted_by most_admitted script before
-    → Appends old mid (later_text script calls [] (admitted_by most_admitted script before)) → Appends mid new (later_text script calls past (added script past (before + 1)))
-    → Appends old new (later_text script calls [] (admitted_by most_admitted script (before + 1)))
-wrote_tick script calls before past old mid new is first next =
-    let W : List ℕ → Type 0 = Appends old new in subst W (sym (text_added script calls before past is)) (Appends-trans old mid new _ _ first next)
-
--- a part of it was written, and so a part of all
-pub wrote_tick_in_part : (script : Script) (calls : Bool) (before : ℕ) (past : List Ext) (old mid new : Option (List ℕ)) → before < script.ticks
-    → past ≡ admitted_by most_admitted script before
-    → Appends old mid (later_text script calls [] (admitted_by most_admitted script before)) → AppendsPrefix mid new (later_text script calls past (added script past (before + 1)))
-    → AppendsPrefix old new (later_text script calls [] (admitted script))
-wrote_tick_in_part script calls before past old mid new within is first next =
-    let P : List ℕ → Type 0 = AppendsPrefix old new in
-    let begins = admitted_to-begins most_admitted script (before + 1) (omega (arith, within)) in
-    let now : List Ext = admitted_by most_admitted script (before + 1) in
-    subst P (sym (ap (later_text script calls []) begins.is ∙ later_text-append script calls [] now begins.rest))
-    (part_more old new _ _ (subst P (sym (text_added script calls before past is)) (part_after old mid new _ _ first next)))
-
 -- after the last tick all is admitted
 pub last_admits : (script : Script) (n : ℕ) → n ≡ script.ticks → admitted_by most_admitted script n ≡ admitted script
 last_admits script n e = ap (λ (k : ℕ). admitted_by most_admitted script k) e ∙ sym (admitted_to-is most_admitted script)
@@ -161,3 +110,15 @@ limit_admits script before within passed = sym (passed_admits most_admitted scri
 
 pub limit_limits : (script : Script) (before : ℕ) → before < script.ticks → is_limited_by most_admitted script (before + 1) ≡ true → true ≡ is_limited script
 limit_limits script before within passed = sym (passed_limits most_admitted script (before + 1) (omega (arith, within)) passed)
+
+-- nothing is left of a tick
+pub past_is : (script : Script) (past : List Ext) (tick : ℕ) (rest : List Ext) → IsLeft script past tick rest → rest ≡ [] → past ≡ admitted_by most_admitted script tick
+past_is script past tick rest left none = sym (left.adds ∙ (ap (λ (xs : List Ext). past ++ xs) none ∙ append-nil past))
+
+-- the next one of a list
+pub first_of : (P : Ext → Type 0) (xs : List Ext) (ext : Ext) → All P xs → slice_get xs 0 ≡ Some ext → P ext
+first_of P [] ext all is = absurd (cc is)
+first_of P (x ∷ xs) ext all is = subst P (same x ext is) (All-head P x xs all)
+  where
+    same : (a b : Ext) → Some a ≡ Some b → a ≡ b
+    same a b e = cc e
