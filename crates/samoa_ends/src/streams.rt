@@ -1,5 +1,7 @@
 //! Ends over any reader and writer of std. This is the trusted edge: no clause can say what a device gives or takes.
 ghost use Rattle.std.specs.Prelude.{◌≡◌};
+ghost use Rattle.std.specs.Io.KnownBytes.{Keeps};
+ghost use Rattle.samoa_ends.specs.Causes.{HasCause};
 ghost use Rattle.samoa_ends.specs.Streams.{reader_of, source_faults, writer_of, sink_faults};
 
 use crate::{Failed, Sink, Source};
@@ -53,6 +55,20 @@ impl<W: Write> StdSink<W> {
         ensures faults { sink_faults result ≡ 0 }
     {
         StdSink { writer, faults: 0 }
+    }
+
+    /// Has the writer pass on what it holds back. What was taken stays taken, and an error is a fault.
+    pub fn flush(&mut self) -> Result<(), Failed>
+        ensures kept { Keeps (W.contents (writer_of self.old)) (W.contents (writer_of self.new)) }
+        ensures cause { HasCause (sink_faults self.old) (sink_faults self.new) result }
+    {
+        match self.writer.flush() {
+            Ok(()) => Ok(()),
+            Err(_) => {
+                self.faults = self.faults.saturating_add(1);
+                Err(Failed)
+            }
+        }
     }
 }
 

@@ -4,7 +4,7 @@ use std::alloc::Global;
 use std::io::{self, Error, ErrorKind, Read, Write};
 use std::test::Fail;
 
-/// A reader and a writer whose second call fails, and whose writes take nothing after that.
+/// A reader and a writer whose second call fails, and whose writes take nothing after that. It can't pass on what it took.
 #[derive(Drop)]
 struct Second {
     calls: u32,
@@ -32,7 +32,7 @@ impl Write for Second {
     }
 
     fn flush(&mut self) -> io::Result<()> {
-        Ok(())
+        Err(Error::from(ErrorKind::BrokenPipe))
     }
 }
 
@@ -102,7 +102,9 @@ fn writes(rt: HostRuntime) -> Result<(), Fail> {
     let told = four_writes(alloc, &mut StdSink::new(&mut taken))?;
     assert_eq!(rt; told.as_slice(), b"----".as_slice());
     assert_eq!(rt; taken.as_slice(), b"abcdefghi".as_slice());
-    let failing = four_writes(alloc, &mut StdSink::new(Second { calls: 0 }))?;
+    let mut second = StdSink::new(Second { calls: 0 });
+    let failing = four_writes(alloc, &mut second)?;
     assert_eq!(rt; failing.as_slice(), b"-!!!".as_slice());
+    assert_eq!(rt; second.flush(), Err(Failed));
     Ok(())
 }
