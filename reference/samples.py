@@ -59,7 +59,8 @@ def items(line):
             continue
         item = {"tick": 1, "node": 0}
         while words[0][0] in "@%":
-            item["node" if words[0][0] == "@" else "tick"] = int(words.pop(0)[1:])
+            mark = words.pop(0)
+            item["node" if mark[0] == "@" else "tick"] = int(mark[1:])
         if words[0] == "change":
             item["change"] = words[1]
             del words[0]
