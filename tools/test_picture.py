@@ -13,7 +13,6 @@ EXAMPLES = os.path.join(HERE, "..", "examples")
 PICTURES = os.path.join(HERE, "..", "docs", "pictures")
 PICTURE = os.path.join(HERE, "picture")
 sys.path.insert(0, os.path.join(HERE, "..", "reference"))
-import samples  # noqa: E402
 import words  # noqa: E402
 
 loader = importlib.machinery.SourceFileLoader("picture", PICTURE)
@@ -85,6 +84,11 @@ class Pictures(unittest.TestCase):
                 self.assertEqual(len(elements(svg, "message")) + len(crosses) + len(late) // 2, wanted)
                 seen += wanted
         self.assertGreater(seen, 100)
+
+    def test_a_change_that_a_handler_asked_for_has_an_arrow_from_there(self):
+        with open(os.path.join(EXAMPLES, "asked_change.json"), "rb") as file:
+            svg = without_legend(picture.draw(answer("run --calls", file.read())))
+        self.assertEqual((len(elements(svg, "asked")), len(elements(svg, "change"))), (1, 1))
 
     def test_deliveries_have_marks(self):
         for name, _, report in reports("run"):
