@@ -1,3 +1,5 @@
+import contextlib
+import io
 import os
 import random
 import shutil
@@ -54,13 +56,20 @@ class Comparisons(unittest.TestCase):
         self.addCleanup(shutil.rmtree, self.folder)
 
     def compared(self, program):
-        out = comparison.Comparison(program, random.Random(1), [2], os.path.join(self.folder, "differs"))
-        out.compare_script(samples.SMALLEST.encode())
-        return out
+        source = random.Random(1)
+        out = comparison.Comparison(program, source, keep=os.path.join(self.folder, "differs"))
+        for arguments in comparison.word_lists(source, [2]):
+            out.compare(arguments, samples.SMALLEST.encode())
+        return out.passed, out.failed
 
     def test_the_reference_agrees_with_itself(self):
-        compared = self.compared(os.path.join(HERE, "answer"))
-        self.assertEqual((compared.passed, compared.failed), (9, 0))
+        self.assertEqual(self.compared(os.path.join(HERE, "answer")), (9, 0))
+
+    def test_what_differs_is_counted_and_kept(self):
+        with contextlib.redirect_stdout(io.StringIO()) as printed:
+            self.assertEqual(self.compared("/bin/true"), (0, 9))
+        self.assertEqual(len(os.listdir(os.path.join(self.folder, "differs"))), 9)
+        self.assertEqual(printed.getvalue().count("wanted"), 9)
 
     def test_the_lines_of_a_journal_are_those_after_its_first(self):
         text, _ = words.answer(["run", "--workers", "1", "--journal"], samples.ONE_COUNTER.encode())
