@@ -2,6 +2,7 @@
 import glob
 import importlib.machinery
 import importlib.util
+import json
 import os
 import subprocess
 import sys
@@ -13,13 +14,22 @@ EXAMPLES = os.path.join(HERE, "..", "examples")
 PICTURES = os.path.join(HERE, "..", "docs", "pictures")
 PICTURE = os.path.join(HERE, "picture")
 sys.path.insert(0, os.path.join(HERE, "..", "reference"))
+import journal  # noqa: E402
 import words  # noqa: E402
 
-loader = importlib.machinery.SourceFileLoader("picture", PICTURE)
-picture = importlib.util.module_from_spec(importlib.util.spec_from_loader("picture", loader))
-sys.modules["picture"] = picture
+
+def load(name):
+    """A file without suffix as a module."""
+    loader = importlib.machinery.SourceFileLoader(name, os.path.join(HERE, name))
+    module = importlib.util.module_from_spec(importlib.util.spec_from_loader(name, loader))
+    sys.modules[name] = module
+    loader.exec_module(module)
+    return module
+
+
 sys.dont_write_bytecode = True
-loader.exec_module(picture)
+picture = load("picture")
+pictures = load("pictures")
 
 LONG = {"flood", "flood_within_the_limit"}
 
@@ -93,7 +103,8 @@ class Pictures(unittest.TestCase):
     def test_deliveries_have_marks(self):
         for name, _, report in reports("run"):
             with self.subTest(name=name):
-                marks = [part for part in elements(without_legend(picture.draw(report)), "delivery") if part.tag.endswith("path")]
+                parts = elements(without_legend(picture.draw(report)), "delivery")
+                marks = [part for part in parts if part.tag.endswith("path")]
                 most = picture.MOST_MARKS
                 by_computation = [0]
                 for line in report.splitlines():
@@ -138,6 +149,11 @@ class Pictures(unittest.TestCase):
             self.assertEqual((done.returncode, done.stdout), (1, ""))
             self.assertIn("line 1 is none of a report", done.stderr)
 
+    def test_what_is_no_journal_is_refused(self):
+        for step in ("l 1", "a 2", "e 1", "x 1", "a"):
+            with self.assertRaises(picture.NotAReport):
+                picture.draw(f"E 1 1 0 e\nZ 1 ok\nN 1 0 0\nJ 1\n{step}\n")
+
     def test_a_long_run_gives_a_picture_of_bounded_size(self):
         lines, steps = [], []
         for number in range(1, 8_001):
@@ -156,6 +172,19 @@ class Pictures(unittest.TestCase):
                 svg = file.read()
             ElementTree.fromstring(svg)
             self.assertNotIn("href", svg)
+
+    def test_stored_pictures_are_those_that_are_drawn_now(self):
+        drawn = {}
+        for name in pictures.NODES:
+            path, text = pictures.example(name)
+            script = picture.Script(json.loads(text))
+            drawn[name] = picture.draw(answer("run --calls", text), script)
+        _, text = pictures.example("handed_on")
+        steps = journal.journal_text(pictures.two_workers(text))
+        drawn["handed_on"] = picture.draw(answer("run", text) + steps, only="journal")
+        for name, svg in drawn.items():
+            with open(os.path.join(PICTURES, name + ".svg"), encoding="utf-8") as file:
+                self.assertEqual(file.read(), svg, name)
 
 
 if __name__ == "__main__":
