@@ -1,5 +1,6 @@
 """Runs a program beside the reference on random scripts, byte by byte and status by status."""
 import os
+import random
 import subprocess
 
 import generator
@@ -27,21 +28,21 @@ def replay_input(text, lines):
     return text.replace(b"\n", b" ") + b"\n" + b"".join(line + b"\n" for line in lines)
 
 
-def word_lists(random, workers):
+def word_lists(source, workers):
     """The command lines that a script is run with; one of them is mostly a wrong one."""
     return [
         ["run"], ["run", "--calls"], ["serial", "--calls"], ["check"],
-        ["run", "--cells", str(random.choice([1, 31, 32, 528, 1056, 4112, 1048576]))],
-        ["run", "--workers", str(random.randrange(1, 65)), "--calls"],
+        ["run", "--cells", str(source.choice([1, 31, 32, 528, 1056, 4112, 1048576]))],
+        ["run", "--workers", str(source.randrange(1, 65)), "--calls"],
         ["run", "--workers", "1", "--journal"],
-        random.choice([["run", "--cells", "01"], ["serial", "--journal"], ["check", "--calls"], [], ["help"]]),
+        source.choice([["run", "--cells", "01"], ["serial", "--journal"], ["check", "--calls"], [], ["help"]]),
     ] + [["run", "--calls", "--workers", str(number)] for number in workers]
 
 
 class Comparison:
-    def __init__(self, program, random, workers=(), keep="differs"):
+    def __init__(self, program, source, workers=(), keep="differs"):
         self.program = program
-        self.random = random
+        self.random = source
         self.workers = workers
         self.keep = keep
         self.passed = 0
@@ -64,10 +65,12 @@ class Comparison:
     def compare_script(self, data):
         for arguments in word_lists(self.random, self.workers):
             self.compare(arguments, data)
-        if self.random.random() < 0.5:
-            self.compare_journal(data)
+        # What is drawn for a journal depends on its length, which isn't the same each time. So it has a source of its own.
+        source = random.Random(self.random.random())
+        if source.random() < 0.5:
+            self.compare_journal(data, source)
 
-    def compare_journal(self, data):
+    def compare_journal(self, data, source):
         """The program's own journal of several workers has to be complete by the reference; and both have to answer the same
         to it, and to one that was changed."""
         output, status = run_program(self.program, ["run", "--workers", "4", "--journal"], data)
@@ -78,14 +81,14 @@ class Comparison:
         self.judge("its journal is complete", (b"", words.answer(["replay"], own)[1]), (b"", 0), own)
         self.compare(["replay"], own, "replay of its own journal")
         if lines:
-            changed = replay_input(data, generator.changed_journal(self.random, lines))
+            changed = replay_input(data, generator.changed_journal(source, lines))
             self.compare(["replay"], changed, "replay of a changed journal")
 
 
-def export(folder, random, data, at, workers):
+def export(folder, source, data, at, workers):
     """Writes each command line of a script as a case: NAME, NAME.args and NAME.stdout, as `rt try --cases` reads them."""
     os.makedirs(folder, exist_ok=True)
-    for nth, arguments in enumerate(word_lists(random, workers)):
+    for nth, arguments in enumerate(word_lists(source, workers)):
         name = os.path.join(folder, f"case{at}_{nth}")
         for ending, text in (("", data), (".args", "\n".join(arguments).encode()),
                              (".stdout", words.answer(arguments, data)[0])):
