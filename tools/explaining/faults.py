@@ -19,6 +19,11 @@ class Fault(Exception):
         self.nearest = nearest
 
 
+def fault_at(part, line, cause, near=None):
+    """The fault of one part of the tree."""
+    return Fault(line, part.at, part.path, cause, near)
+
+
 def quoted(text):
     """A text as it would stand in a message: short, and without characters that a terminal obeys."""
     shown = "".join(letter if letter.isprintable() else f"\\u{ord(letter):04x}" for letter in text[:60])
@@ -38,15 +43,15 @@ def how_many(count, one, more=None):
 
 
 def distance(left, right):
-    """How many letters are to be put in, taken away, exchanged or swapped with the next to get from one word to the other."""
+    """How many letters are to be put in, taken away, exchanged or swapped with the next to get from left to right."""
     before, row = [], list(range(len(right) + 1))
-    for i, letter in enumerate(left, 1):
+    for taken, letter in enumerate(left, 1):
         earlier, before = before, row
-        row = [i]
-        for j, other in enumerate(right, 1):
-            cost = min(before[j] + 1, row[j - 1] + 1, before[j - 1] + (letter != other))
-            if i > 1 and j > 1 and letter == right[j - 2] and left[i - 2] == other:
-                cost = min(cost, earlier[j - 2] + 1)
+        row = [taken]
+        for made, other in enumerate(right, 1):
+            cost = min(before[made] + 1, row[made - 1] + 1, before[made - 1] + (letter != other))
+            if taken > 1 and made > 1 and letter == right[made - 2] and left[taken - 2] == other:
+                cost = min(cost, earlier[made - 2] + 1)
             row.append(cost)
     return row[-1]
 

@@ -1,12 +1,12 @@
 """The first pass: the form of each object, key by key in the order of its table, from the top."""
 from . import grammar
-from .faults import Fault, either, how_many, nearest, quoted
+from .faults import Fault, either, fault_at, how_many, nearest, quoted
 from .grammar import is_handler_name, is_name
 from .reader import path_of_key
 
 
 def wrong(key, part, cause, near=None):
-    return Fault(f"WrongForm {key}", part.at, part.path, cause, near)
+    return fault_at(part, f"WrongForm {key}", cause, near)
 
 
 # ---- tests of one object's keys
@@ -25,7 +25,7 @@ def check_object(part, key, keys, hints=None):
 def required(part, key, check, *limits):
     found = part.get(key)
     if found is None:
-        raise Fault(f"Missing {key}", part.at, part.path, f"the key `{key}` is missing from the object that begins here")
+        raise fault_at(part, f"Missing {key}", f"the key `{key}` is missing from the object that begins here")
     check(found, key, *limits)
 
 
@@ -41,11 +41,11 @@ def optional(part, key, check, *limits):
 def check_number(part, key, least, most=None):
     """A number from the least on; above the most it is over its limit."""
     if part.sort != "number":
-        raise wrong(key, part, f"{no_number(part)}")
+        raise wrong(key, part, no_number(part))
     if part.value < least:
         raise wrong(key, part, f"`{key}` is at least {least}, and {part.value} stands here")
     if most is not None and part.value > most:
-        raise Fault(f"Over {key} {most}", part.at, part.path, f"`{key}` is at most {most}, and {part.value} stands here")
+        raise fault_at(part, f"Over {key} {most}", f"`{key}` is at most {most}, and {part.value} stands here")
 
 
 def no_number(part):
@@ -73,7 +73,7 @@ def no_name(part):
 
 def no_handler_name(part):
     rule = "a handler is named by two names joined by one dot, microprotocol.handler"
-    return f"{rule}; {part.shown()} stands here" if part.sort != "text" else f"{rule}; {part.shown()} isn't such a name"
+    return f"{rule}; {part.shown()} " + ("isn't such a name" if part.sort == "text" else "stands here")
 
 
 # ---- lists without keys: the form of the items belongs to the form of the list, and comes before its limit
@@ -100,7 +100,7 @@ def check_most(part, key, most):
     if len(part.value) > most:
         first = part.value[most]
         cause = f"`{key}` has at most {how_many(most, 'item')}, and this is the first of {len(part.value) - most} too many"
-        raise Fault(f"Over {key} {most}", first.at, first.path, cause)
+        raise fault_at(first, f"Over {key} {most}", cause)
 
 
 def number_item(part):
@@ -199,7 +199,8 @@ def check_handler(part, key):
 def check_micro(part, key):
     kind = named(part, "kind", grammar.KINDS)
     keys = grammar.SCRIPTED if kind in (None, "prog") else grammar.MICRO
-    check_object(part, key, keys, {"handlers": f"a microprotocol of kind {kind} has the handlers of its kind: only one of kind prog has the key `handlers`"})
+    no_handlers = f"a microprotocol of kind {kind} has the handlers of its kind; only kind prog has the key `handlers`"
+    check_object(part, key, keys, {"handlers": no_handlers})
     required(part, "name", check_name)
     required(part, "kind", check_one_of, grammar.KINDS)
     optional(part, "nums", check_items, 0, 12, number_item)
@@ -227,8 +228,9 @@ def check_body(part, form):
 
 def keys_of_other_forms(form):
     """Why a key of another form doesn't stand in a declaration of this one."""
-    keys = {key: other for other, keys in grammar.BODIES.items() for key in keys if other != form}
-    return {key: f"`{key}` stands only in a declaration of form {other}, and this one is of form {form}" for key, other in keys.items()}
+    why = "`{}` stands only in a declaration of form {}, and this one is of form {}"
+    others = [(key, other) for other, keys in grammar.BODIES.items() for key in keys if other != form]
+    return {key: why.format(key, other, form) for key, other in others}
 
 
 def check_declaration(part, key):

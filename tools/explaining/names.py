@@ -1,6 +1,6 @@
 """The second and the third pass: names that stand twice, and names that aren't defined."""
 from . import grammar
-from .faults import Fault, nearest, quoted
+from .faults import fault_at, nearest, quoted
 from .reader import place
 
 
@@ -29,7 +29,7 @@ class Twice:
             if part.value in first:
                 line, column = place(self.text, first[part.value].at)
                 cause = f"{what} {quoted(part.value)} stands a second time: the first is in line {line}, column {column}"
-                raise Fault(f"Twice {part.value}", part.at, part.path, cause)
+                raise fault_at(part, f"Twice {part.value}", cause)
             first[part.value] = part
 
     def script(self, script):
@@ -57,7 +57,8 @@ class Twice:
         if form == "set":
             self.among(items(declaration, "micros"), "in this declaration the microprotocol")
         if form == "bound":
-            self.among([bound.get("micro") for bound in items(declaration, "bounds")], "in this declaration the microprotocol")
+            micros = [bound.get("micro") for bound in items(declaration, "bounds")]
+            self.among(micros, "in this declaration the microprotocol")
 
 
 # ---- unknown
@@ -81,7 +82,7 @@ class Unknown:
     def among(self, part, known, what):
         if part.value not in known:
             cause = f"{what} {quoted(part.value)} isn't defined" + ("" if known else ", and the script defines none")
-            raise Fault(f"Unknown {part.value}", part.at, part.path, cause, nearest(part.value, known))
+            raise fault_at(part, f"Unknown {part.value}", cause, nearest(part.value, known))
 
     def micro(self, part):
         self.among(part, self.micros, "the microprotocol")
@@ -96,7 +97,8 @@ class Unknown:
         micro, name = part.value.split(".")
         if name in self.micros.get(micro, []):
             return
-        raise Fault(f"Unknown {part.value}", part.at, part.path, self.why_no_handler(micro, name), self.nearest_handler(part.value))
+        cause = self.why_no_handler(micro, name)
+        raise fault_at(part, f"Unknown {part.value}", cause, self.nearest_handler(part.value))
 
     def why_no_handler(self, micro, name):
         if micro not in self.micros:

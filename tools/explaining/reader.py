@@ -106,8 +106,8 @@ class Reader:
         part = self.part("$", 0)
         self.space()
         if self.at < len(self.text):
-            cause = "a comment stands here; JSON has none" if self.comment() else f"{self.here()} stands after the end of the script"
-            raise self.fault(cause, "$")
+            after = f"{self.here()} stands after the end of the script"
+            raise self.fault("a comment stands here; JSON has none" if self.comment() else after, "$")
         return part
 
     def part(self, path, depth):

@@ -1,6 +1,6 @@
 """The fourth pass: what is counted over the whole script. Each test covers the whole script before the next."""
 from . import grammar
-from .faults import Fault, how_many
+from .faults import fault_at, how_many
 from .names import ends_of, items
 
 
@@ -9,7 +9,8 @@ def check_ports(micro):
     if found < grammar.PORTS[kind]:
         part = micro.get("ports") or micro
         needs = how_many(grammar.PORTS[kind], "port")
-        raise Fault("WrongForm ports", part.at, part.path, f"a microprotocol of kind {kind} needs at least {needs}, and has {found or 'none'}")
+        cause = f"a microprotocol of kind {kind} needs at least {needs}, and has {found or 'none'}"
+        raise fault_at(part, "WrongForm ports", cause)
 
 
 def check_code(micro):
@@ -24,8 +25,8 @@ def check_position(instruction, counts):
     sorts = grammar.INSTRUCTIONS[instruction.value[0].value]
     for part, sort in zip(instruction.value[1:], sorts):
         if sort in counts and part.value >= counts[sort]:
-            cause = f"`{sort}s` of this microprotocol has {how_many(counts[sort], 'item')}, counted from 0, and position {part.value} isn't there"
-            raise Fault("WrongForm code", part.at, part.path, cause)
+            there = f"`{sort}s` of this microprotocol has {how_many(counts[sort], 'item')}, counted from 0"
+            raise fault_at(part, "WrongForm code", f"{there}, and position {part.value} isn't there")
 
 
 def check_vertices(declaration):
@@ -34,18 +35,19 @@ def check_vertices(declaration):
         seen.add(end.value)
         if len(seen) > grammar.VERTICES_LIMIT:
             cause = f"the roots and the ends of edges are at most {grammar.VERTICES_LIMIT} handlers, and this is one more"
-            raise Fault(f"Over edges {grammar.VERTICES_LIMIT}", end.at, end.path, cause)
+            raise fault_at(end, f"Over edges {grammar.VERTICES_LIMIT}", cause)
 
 
 def check_node(part, key, nodes):
     if part.value >= nodes:
         cause = f"the script has {how_many(nodes, 'node')}, counted from 0, and there is no node {part.value}"
-        raise Fault(f"Over {key} {nodes - 1}", part.at, part.path, cause)
+        raise fault_at(part, f"Over {key} {nodes - 1}", cause)
 
 
 def check_tick(part, ticks):
     if part.value > ticks:
-        raise Fault(f"Over tick {ticks}", part.at, part.path, f"the script has {how_many(ticks, 'tick')}, and tick {part.value} is after the last")
+        cause = f"the script has {how_many(ticks, 'tick')}, and tick {part.value} is after the last"
+        raise fault_at(part, f"Over tick {ticks}", cause)
 
 
 def check_kind(script, kind, nodes):
@@ -53,7 +55,8 @@ def check_kind(script, kind, nodes):
     if nodes * len(micros) > grammar.BOXES_LIMIT:
         part = micros[grammar.BOXES_LIMIT // nodes].get("kind")
         counted = f"{how_many(nodes, 'node')} times {how_many(len(micros), 'microprotocol')} of kind {kind}"
-        raise Fault(f"Over {kind} {grammar.BOXES_LIMIT}", part.at, part.path, f"{counted} are more than {grammar.BOXES_LIMIT}; this is the first too many")
+        cause = f"{counted} are more than {grammar.BOXES_LIMIT}; this is the first too many"
+        raise fault_at(part, f"Over {kind} {grammar.BOXES_LIMIT}", cause)
 
 
 def check_totals(script):
