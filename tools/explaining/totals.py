@@ -25,8 +25,9 @@ def check_position(instruction, counts):
     sorts = grammar.INSTRUCTIONS[instruction.value[0].value]
     for part, sort in zip(instruction.value[1:], sorts):
         if sort in counts and part.value >= counts[sort]:
-            there = f"`{sort}s` of this microprotocol has {how_many(counts[sort], 'item')}, counted from 0"
-            raise fault_at(part, "WrongForm code", f"{there}, and position {part.value} isn't there")
+            has = f"has {how_many(counts[sort], 'item')}, counted from 0" if counts[sort] else "is empty"
+            cause = f"`{sort}s` of this microprotocol {has}, and position {part.value} isn't there"
+            raise fault_at(part, "WrongForm code", cause)
 
 
 def check_vertices(declaration):
