@@ -1,6 +1,7 @@
 //! The kind `repl`: one stream of deliveries over broadcasts that replace each other.
 #![tactic(auto)]
 
+mod early;
 mod repl;
 #[cfg(test)]
 mod tests;

@@ -3,11 +3,11 @@ ghost use Rattle.std.specs.Prelude.{◌≡◌, ◌+◌, ◌<◌, ◌≤◌, ◌^
 ghost use Rattle.samoa_serial.specs.ReplTable.{pair_of, first_of, without_first, is_change, repl_hand_on, repl_drain, repl_mark, repl_recast, repl_go_on, repl_cast, repl_deliver, repl_switched, repl_marked, repl_deliver_on};
 ghost use Rattle.samoa_serial.specs.Rows.{has_pair};
 
-use samoa_micro::kept::PairSet;
+use crate::early::Early;
 use samoa_micro::rows::{call, change_at, done, me, nothing, read_message};
 use samoa_micro::{StateMachine, Stateful};
 use samoa_model::{Kind, Moment, NoMemory, Outcome, Setup, Words};
-use samoa_serial::{Message, Own, Pair};
+use samoa_serial::{Message, Own};
 use std::alloc::Global;
 use std::marker::Model;
 
@@ -18,12 +18,10 @@ pub type Repl = Stateful<Stream>;
 /// What was cast here, what was delivered and what came early.
 #[derive(Drop)]
 pub struct Stream {
-    epoch: u64,
     hold: u64,
     count: u64,
     mine: Vec<Own>,
-    delivered: PairSet,
-    early: Vec<Message>,
+    early: Early,
 }
 
 impl Model for Stream {
@@ -31,7 +29,7 @@ impl Model for Stream {
 
     ghost Value = { ReplState };
 
-    ghost view = { λ s. record { epoch = s.epoch; hold = s.hold; count = s.count; mine = s.mine.items; delivered = s.delivered; early = s.early.items } };
+    ghost view = { λ s. record { epoch = s.early.epoch; hold = s.hold; count = s.count; mine = s.mine.items; delivered = s.early.delivered; early = s.early.early } };
 }
 
 impl Stream {
@@ -40,12 +38,10 @@ impl Stream {
         ensures { result ≡ record { epoch = 0; hold = 0; count = 0; mine = []; delivered = []; early = [] } }
     {
         Stream {
-            epoch: 0,
             hold: 0,
             count: 0,
             mine: Vec::new(alloc),
-            delivered: PairSet::new(alloc),
-            early: Vec::new(alloc),
+            early: Early::new(alloc),
         }
     }
 
@@ -54,8 +50,8 @@ impl Stream {
         ensures outcome { result ≡ (repl_drain setup.now self.old).1 }
         ensures state { self.new ≡ (repl_drain setup.now self.old).0 }
     {
-        drop_over(&mut self.early, self.epoch, &self.delivered);
-        hand_on(setup, self.epoch, first_in(&self.early, self.epoch))
+        self.early.sweep();
+        hand_on(setup, self.early.epoch(), self.early.first())
     }
 
     /// The first message of the epoch was handed on.
@@ -63,11 +59,10 @@ impl Stream {
         ensures ok { OnOk result (self.new ≡ repl_mark setup.now self.old message) }
         ensures err { OnErr result (self.new ≡ self.old) }
     {
-        self.delivered.add(pair(message))?;
+        self.early.mark(message)?;
         if message.origin == me(setup) {
             take_own(&mut self.mine, message.number);
         }
-        take_first(&mut self.early, self.epoch);
         Ok(())
     }
 
@@ -78,7 +73,7 @@ impl Stream {
     {
         match next_own(&self.mine, after) {
             None => nothing(),
-            Some(own) => recast(setup, self.epoch, own),
+            Some(own) => recast(setup, self.early.epoch(), own),
         }
     }
 
@@ -99,7 +94,7 @@ impl Stream {
         self.mine.push(own)?;
         self.count = own.number;
         if self.hold == 0 {
-            Ok(recast(setup, self.epoch, own))
+            Ok(recast(setup, self.early.epoch(), own))
         } else {
             Ok(done(&[own.number]))
         }
@@ -111,7 +106,7 @@ impl Stream {
         ensures ok { OnOk result (self.new ≡ (repl_deliver setup.now self.old message).0) }
         ensures err { OnErr result (self.new ≡ self.old) }
     {
-        if self.epoch <= message.epoch {
+        if self.early.comes(message) {
             self.early.push(message)?;
         }
         Ok(self.drain(setup))
@@ -122,7 +117,7 @@ impl Stream {
         ensures outcome { result ≡ (repl_switched setup.now self.old epoch).1 }
         ensures state { self.new ≡ (repl_switched setup.now self.old epoch).0 }
     {
-        if epoch != self.epoch {
+        if epoch != self.early.epoch() {
             return nothing();
         }
         self.hold = 0;
@@ -135,7 +130,7 @@ impl Stream {
         ensures ok { OnOk result (self.new ≡ (repl_marked setup.now self.old at (first_of self.old.epoch self.old.early)).0) }
         ensures err { OnErr result (self.new ≡ self.old) }
     {
-        let Some(message) = first_in(&self.early, self.epoch) else {
+        let Some(message) = self.early.first() else {
             return Ok(nothing());
         };
         self.mark(setup, message)?;
@@ -143,7 +138,7 @@ impl Stream {
             return Ok(self.drain(setup));
         }
         if at == 1 {
-            self.epoch = self.epoch.saturating_add(1);
+            self.early.begin_next();
             self.hold = 1;
             return Ok(self.drain(setup));
         }
@@ -164,42 +159,6 @@ impl Stream {
             return Ok(self.drain(setup));
         }
         Ok(nothing())
-    }
-}
-
-/// What a message is delivered by.
-fn pair(message: Message) -> Pair
-    ensures { result ≡ pair_of message }
-{
-    Pair {
-        origin: message.origin,
-        number: message.number,
-    }
-}
-
-/// Takes out the messages of earlier epochs, and those that were delivered.
-fn drop_over(early: &mut Vec<Message>, epoch: u64, delivered: &PairSet)
-    ensures { early.new.items ≡ filter (λ m. not (nat_lt m.epoch epoch || has_pair delivered.now (pair_of m))) early.old.items }
-{
-    early.retain(|m| !(m.epoch < epoch || delivered.has(pair(*m))));
-}
-
-/// The first message of an epoch.
-fn first_in(early: &Vec<Message>, epoch: u64) -> Option<Message>
-    ensures { result ≡ first_of epoch early.now.items }
-{
-    early.iter().copied().find(|m| m.epoch == epoch)
-}
-
-/// Takes the first message of an epoch out.
-fn take_first(early: &mut Vec<Message>, epoch: u64)
-    ensures { early.new.items ≡ without_first epoch early.old.items }
-{
-    for at in 0..early.len() {
-        if early[at].epoch == epoch {
-            early.remove(at);
-            return;
-        }
     }
 }
 
@@ -307,7 +266,7 @@ impl StateMachine for Stream {
     }
 
     fn show(&self) -> Words {
-        let delivered = self.delivered.len() as u64;
-        Words::cut(&[self.epoch, self.count, delivered, self.hold])
+        let delivered = self.early.delivered() as u64;
+        Words::cut(&[self.early.epoch(), self.count, delivered, self.hold])
     }
 }
