@@ -1,6 +1,7 @@
 //! Atomic broadcast by consensus: what waits and what was decided, and a method for each row of its table.
-ghost use Rattle.std.specs.Prelude.{◌≡◌, ◌+◌, ◌-◌, ◌<◌, ◌≤◌, ◌^◌, OnOk, OnErr, IfOk, [], length};
+ghost use Rattle.std.specs.Prelude.{◌≡◌, ◌+◌, ◌-◌, ◌<◌, ◌≤◌, ◌^◌, ◌++◌, ◌∷◌, OnOk, OnErr, IfOk, [], length};
 ghost use Rattle.samoa_serial.specs.AbcastTable.{abcast_offer, abcast_skip, abcast_drain, abcast_heard, abcast_decided, abcast_marked, abcast_decided_on, has_message, without_message};
+ghost use Rattle.samoa_abcast.specs.Indexed.{IsIndexed};
 
 use samoa_micro::kept::{KeySet, MessageMap};
 use samoa_micro::rows::{call, is_same, key_of, nothing, read_message, words_of};
@@ -8,27 +9,33 @@ use samoa_micro::{StateMachine, Stateful};
 use samoa_model::{Kind, Moment, NoMemory, Outcome, Setup, Words};
 use samoa_serial::{Key, Message};
 use std::alloc::Global;
+use std::collections::BTreeSet;
 use std::marker::Model;
 
 /// An atomic broadcast: the group agrees on the message that comes next, one instance of consensus after another.
 pub type Abcast = Stateful<Order>;
 
-/// What waits, what was decided and what was handed on.
+/// What waits, what was decided and what was handed on. Beside what waits stand its keys, so that a message that is new
+/// is looked for in no list. A key stays there where memory failed as its message was to be kept.
 #[derive(Drop)]
 pub struct Order {
     next: u64,
     proposed: u64,
     pending: Vec<Message>,
+    keys: BTreeSet<Key>,
     done: KeySet,
     decisions: MessageMap,
 }
 
 impl Model for Order {
     ghost use Rattle.samoa_serial.specs.State.{AbcastState};
+    ghost use Rattle.samoa_abcast.specs.Indexed.{IsIndexed};
 
     ghost Value = { AbcastState };
 
     ghost view = { λ s. record { next = s.next; proposed = s.proposed; pending = s.pending.items; done = s.done; decisions = s.decisions } };
+
+    ghost invariant = { λ s. IsIndexed s.pending.items s.keys.keys };
 }
 
 impl Order {
@@ -40,6 +47,7 @@ impl Order {
             next: 1,
             proposed: 0,
             pending: Vec::new(alloc),
+            keys: BTreeSet::new(alloc),
             done: KeySet::new(alloc),
             decisions: MessageMap::new(alloc),
         }
@@ -78,6 +86,23 @@ impl Order {
         }
     }
 
+    /// Whether a message of this key waits.
+    fn waits(&self, key: Key) -> bool
+        ensures { result ≡ has_message self.now.pending key }
+    {
+        waits_in(&self.pending, &self.keys, key)
+    }
+
+    /// A message waits from now on.
+    fn keep(&mut self, message: Message) -> Result<(), NoMemory>
+        ensures ok { OnOk result (self.new ≡ record self.old { pending = self.old.pending ++ message ∷ [] }) }
+        ensures err { OnErr result (self.new ≡ self.old) }
+    {
+        self.keys.insert(key_of(message))?;
+        self.pending.push(message)?;
+        Ok(())
+    }
+
     /// `heard` with tag 0: a message came by reliable broadcast, and waits unless it is known.
     fn heard(&mut self, setup: &Setup, message: Message) -> Result<Outcome, NoMemory>
         ensures outcome { IfOk result (λ outcome. outcome ≡ (abcast_heard setup.now self.old message).1) }
@@ -85,8 +110,8 @@ impl Order {
         ensures err { OnErr result (self.new ≡ self.old) }
     {
         let key = key_of(message);
-        if !has_key_of(&self.pending, key) && !self.done.has(key) {
-            self.pending.push(message)?;
+        if !self.waits(key) && !self.done.has(key) {
+            self.keep(message)?;
         }
         Ok(self.offer(setup))
     }
@@ -109,6 +134,7 @@ impl Order {
         let key = key_of(message);
         self.done.add(key)?;
         take_out(&mut self.pending, key);
+        self.keys.remove(&key);
         self.next = self.next.saturating_add(1);
         Ok(())
     }
@@ -149,7 +175,18 @@ fn past_done(done: &KeySet, decisions: &MessageMap, from: u64) -> u64
     next
 }
 
-/// Whether a message of this key waits.
+/// Whether a message of this key is among these, whose keys are there.
+fn waits_in(messages: &Vec<Message>, keys: &BTreeSet<Key>, key: Key) -> bool
+    requires { IsIndexed messages.now.items keys.now.keys }
+    ensures { result ≡ has_message messages.now.items key }
+{
+    if !keys.contains(&key) {
+        return false;
+    }
+    has_key_of(messages, key)
+}
+
+/// Whether a message of this key is among these.
 fn has_key_of(messages: &Vec<Message>, key: Key) -> bool
     ensures { result ≡ has_message messages.now.items key }
 {

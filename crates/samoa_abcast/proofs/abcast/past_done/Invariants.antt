@@ -1,4 +1,4 @@
-use Rattle.std.proofs.Common.{◌≡◌, ◌≤◌, length}
+use Rattle.std.proofs.Common.{◌≡◌, length}
 use Rattle.samoa_serial.specs.AbcastTable.{abcast_skip}
 use Rattle.samoa_abcast.proofs.abcast.past_done.Given as goal
 
