@@ -81,7 +81,16 @@ fn answer<R: Wait + Threads + Sync>(
     writes: &[u64],
     steps: u32,
 ) -> Result<(u8, Vec<u8>), NoMemory> {
-    answer_behind(rt, alloc, words, input, reads, writes, steps, &NoGate::new())
+    answer_behind(
+        rt,
+        alloc,
+        words,
+        input,
+        reads,
+        writes,
+        steps,
+        &NoGate::new(),
+    )
 }
 
 /// The same, behind a gate.
@@ -310,7 +319,10 @@ fn overlaps_handler_steps(rt: HostRuntime) -> Result<(), Fail> {
         &meeting,
     )?;
     assert_eq!(rt; status, 0);
-    assert_eq!(rt; written.as_slice(), "E 1 1 0 ea\nZ 1 ok\nE 2 1 0 eb\nZ 2 ok\nS 0 a 0 0 0 0\nS 0 b 0 0 0 0\nN 2 0 0\n".as_bytes());
+    assert_eq!(rt;
+        written.as_slice(),
+        "E 1 1 0 ea\nZ 1 ok\nE 2 1 0 eb\nZ 2 ok\nS 0 a 0 0 0 0\nS 0 b 0 0 0 0\nN 2 0 0\n".as_bytes()
+    );
     assert_eq!(rt; meeting.met.load(Ordering::Acquire), 1);
     Ok(())
 }
