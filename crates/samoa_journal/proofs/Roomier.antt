@@ -1,5 +1,5 @@
 -- A core with more cells, cleared more often, makes the same steps.
-use Rattle.std.proofs.Common.{◌≡◌, refl, sym, ap, subst, ◌∙◌, arith, ℕ, zero, suc, ◌+◌, ◌-◌, ◌<◌, ◌≤◌, Bool, true, false, if◌then◌else◌, List, [], ◌∷◌, length, take, Option, Some, None}
+use Rattle.std.proofs.Common.{◌≡◌, refl, sym, ap, subst, ◌∙◌, arith, ℕ, zero, suc, ◌+◌, ◌-◌, ◌≤◌, Bool, true, false, if◌then◌else◌, List, [], ◌∷◌, length, take, Option, Some, None}
 use Rattle.std.proofs.lemmas.Bool.{false≢true}
 use Rattle.samoa_model.specs.declared.handler.Moment.{Moment}
 use Rattle.samoa_model.specs.declared.record.Ext.{Ext}
@@ -13,7 +13,6 @@ use Rattle.samoa_invariant.specs.State as model
 use Rattle.samoa_invariant.specs.State.{AllEnded, Core}
 use Rattle.samoa_invariant.specs.Runs.{CanMake, IsRising, IsRun, IsRunFrom, Trace, after_step, clear_at, cleared, is_clear, play, run_from, state}
 use Rattle.samoa_journal.specs.Finished.{IsFinished, OpensTicks, after, most_cells, replayed}
-use Rattle.samoa_journal.specs.Ended.{all_ended}
 use Rattle.samoa_journal.proofs.Ends.{all-ended, ended_all, ends, ends_at, ends_here, ends_later, ends_rise}
 
 -- the core with other cells held

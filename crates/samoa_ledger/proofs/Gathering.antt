@@ -1,5 +1,5 @@
 -- What is gathered, entry by entry, computation by computation and tick by tick.
-use Rattle.std.proofs.Common.{◌≡◌, ℕ, zero, suc, ◌+◌, ◌≤◌, ◌<◌, List, [], ◌∷◌, ◌++◌, length, take, filter, Option, Some, refl, sym, ap, ◌∙◌, subst, arith, append_assoc, append-nil, length-append, slice_get, get_or}
+use Rattle.std.proofs.Common.{◌≡◌, ℕ, zero, suc, ◌+◌, ◌≤◌, ◌<◌, List, [], ◌∷◌, ◌++◌, length, take, filter, Option, Some, sym, ap, ◌∙◌, subst, arith, append_assoc, append-nil, length-append, slice_get, get_or}
 use Rattle.std.specs.List.{flat_map}
 use Rattle.std.proofs.lemmas.Grind.{flat_map-append}
 use Rattle.std.proofs.lemmas.List.Elements.{filter-append}
@@ -23,9 +23,6 @@ use Rattle.samoa_serial.proofs.RebindingLaws.{asked_by_none}
 use Rattle.samoa_net.specs.Gathered.{Gathered, IsPlanFor, IsPlanIfAny, most_kept}
 use Rattle.samoa_ledger.specs.Gathering.{Gathers, HasGathered, KeepsAfter, kept_for}
 use Rattle.samoa_ledger.specs.Written.{next_ran}
-
-keeps_none : (xs : List Ext) → KeepsAfter xs [] xs
-keeps_none xs all e = e ∙ ap (λ (l : List Ext). take most_kept l) (sym (append-nil all))
 
 keeps_more : (before mid after xs ys : List Ext) → KeepsAfter before xs mid → after ≡ take most_kept (mid ++ ys) → KeepsAfter before (xs ++ ys) after
 keeps_more before mid after xs ys first next all e =

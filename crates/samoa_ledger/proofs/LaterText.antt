@@ -29,10 +29,6 @@ later_text-append script calls past (x ∷ xs) ys =
     ∙ ap (λ (before : List Ext). rest ++ later_text script calls before ys) (append_assoc past (x ∷ []) xs))
     ∙ sym (append_assoc first rest (later_text script calls (past ++ (x ∷ xs)) ys))
 
-pub later_text-one : (script : Script) (calls : Bool) (past : List Ext) (ext : Ext) → later_text script calls past (ext ∷ []) ≡ next_text script calls past ext
-unfolding later_text
-later_text-one script calls past ext = append-nil (next_text script calls past ext)
-
 -- the part of the report that the computations make, and what the later ones add to it
 pub comps_text-later : (script : Script) (calls : Bool) (past exts : List Ext)
     → comps_text script calls 1 (past ++ exts) (serial script (past ++ exts)).comps

@@ -1,24 +1,16 @@
 -- What later ticks admit.
-use Rattle.std.proofs.Common.{refl, inl, inr, ◌⊎◌, zero, suc, append_assoc, append-nil, ◌≡◌, ℕ, Bool, ◌+◌, ◌-◌, ◌<◌, ◌≤◌, true, false, min, filter, List, [], ◌∷◌, ◌++◌, length, take, sym, ap, ◌∙◌, subst, arith, length-append, nat_lt}
-use Rattle.std.specs.List.{All}
-use Rattle.std.proofs.lemmas.List.{take_min}
-use Rattle.std.proofs.lemmas.List.Elements.{All-cons, All-nil}
+use Rattle.std.proofs.Common.{refl, inl, inr, ◌⊎◌, zero, suc, append_assoc, append-nil, ◌≡◌, ℕ, Bool, ◌+◌, ◌-◌, ◌<◌, ◌≤◌, true, false, List, [], ◌∷◌, ◌++◌, length, take, sym, ap, ◌∙◌, subst, arith}
 use Rattle.samoa_model.specs.declared.record.Ext.{Ext}
 use Rattle.samoa_model.specs.declared.script.Script.{Script}
-use Rattle.samoa_model.specs.Range.{IsInRange, IsExtOf}
 use Rattle.std.proofs.lemmas.Grind.{common_steps}
 use Rattle.std.proofs.lemmas.Bool.Decides.{leb_tells}
-use Rattle.samoa_serial.specs.Batch.{batch_after, is_up}
+use Rattle.samoa_serial.specs.Batch.{batch_after}
 use Rattle.samoa_serial.specs.SerialRun.{serial}
 use Rattle.samoa_serial.proofs.KeptLaws.{past_stays}
 use Rattle.samoa_serial.proofs.ListLaws.{each_append}
-use Rattle.samoa_serial.specs.History.{batch}
 use Rattle.samoa_serial.specs.Lists.{Each}
-use Rattle.samoa_serial.specs.Ticks.{IsBatch, history_within, admitted, admitted_by, is_limited, is_limited_by, most_admitted}
-use Rattle.samoa_serial.proofs.LimitLaws.{admitted_by-few, admitted_by-known, admitted_to-is, is_limited_to-is, passed_admits, passed_limits, tick_admits, tick_passes, tick_ticks}
-use Rattle.samoa_net.specs.Gathered.{Gathered}
-use Rattle.samoa_ledger.specs.Gathering.{HasGathered}
-use Rattle.samoa_ledger.proofs.Gathering.{batch_is}
+use Rattle.samoa_serial.specs.Ticks.{history_within, admitted, admitted_by, is_limited_by, most_admitted}
+use Rattle.samoa_serial.proofs.LimitLaws.{admitted_to-is, tick_admits, tick_ticks}
 
 -- what later ticks admit is of later ticks
 pub record LaterTicks (script : Script) (n : ℕ) (whole : List Ext) : Type 0 where

@@ -1,7 +1,5 @@
 -- What is due is of the script.
-use Rattle.std.proofs.Common.{◌≡◌, Some, slice_get, List, [], ◌∷◌, subst}
-use Rattle.std.specs.List.{All}
-use Rattle.std.proofs.lemmas.List.Elements.{All-head}
+use Rattle.std.proofs.Common.{◌≡◌, Some, slice_get, List}
 use Rattle.samoa_model.specs.declared.record.Ext.{Ext}
 use Rattle.samoa_model.specs.Range.{IsExtOf, IsInRange}
 use Rattle.samoa_invariant.specs.Runs.{Trace}

@@ -5,15 +5,12 @@ use Rattle.std.proofs.lemmas.List.{get_or_append_left}
 use Rattle.samoa_model.specs.declared.handler.Moment.{Moment}
 use Rattle.samoa_model.specs.declared.record.Ext.{Ext}
 use Rattle.samoa_model.specs.declared.record.Step.{Step}
-use Rattle.samoa_model.specs.declared.script.Decl.{Decl}
 use Rattle.samoa_model.specs.declared.script.Script.{Script}
-use Rattle.samoa_model.specs.Allowed.{weight}
 use Rattle.samoa_model.specs.Scripts.{decl_of}
 use Rattle.samoa_serial.specs.declared.call.Call.{Call}
 use Rattle.samoa_serial.specs.Alone.{next_step}
 use Rattle.samoa_serial.specs.Ticks.{admitted, most_admitted}
 use Rattle.samoa_serial.proofs.LimitLaws.{admitted_to-begins}
-use Rattle.samoa_versions.specs.Counters.{IsTurn}
 use Rattle.samoa_invariant.specs.Play.{Play}
 use Rattle.samoa_invariant.specs.State as model
 use Rattle.samoa_invariant.specs.State.{AllEnded, CanEnd, CanEnter, CanLeave, CanRelease, Core, HasTurn, Quiet}

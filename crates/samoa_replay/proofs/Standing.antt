@@ -1,5 +1,5 @@
 -- How far a script was run: at first, with a tick more, and with a part more that is written.
-use Rattle.std.proofs.Common.{◌≡◌, refl, sym, ap, subst, ◌∙◌, arith, ℕ, ◌⊎◌, inl, inr, ◌+◌, ◌-◌, ◌<◌, ◌≤◌, Bool, true, false, min, filter, if◌then◌else◌, List, [], ◌++◌, append-nil, length, take, take-append-drop, drop, nat_lt}
+use Rattle.std.proofs.Common.{◌≡◌, refl, sym, ap, subst, ◌∙◌, arith, ℕ, ◌⊎◌, inl, inr, ◌+◌, ◌-◌, ◌<◌, ◌≤◌, Bool, true, false, min, filter, if◌then◌else◌, List, [], ◌++◌, length, take, take-append-drop, drop, nat_lt}
 use Rattle.std.specs.List.{All}
 use Rattle.std.proofs.Math.Seq.{drop-length, take-length}
 use Rattle.std.proofs.lemmas.Bool.{cases_order, false≢true}

@@ -4,7 +4,7 @@ use Rattle.std.specs.List.{All, AllPairs}
 use Rattle.samoa_model.specs.declared.record.Ext.{Ext}
 use Rattle.samoa_model.specs.declared.record.Step.{Step}
 use Rattle.samoa_model.specs.declared.script.Script.{Script}
-use Rattle.samoa_serial.specs.Ticks.{admitted_by, is_limited_by, most_admitted}
+use Rattle.samoa_serial.specs.Ticks.{is_limited_by, most_admitted}
 use Rattle.samoa_invariant.specs.State.{AllEnded}
 use Rattle.samoa_invariant.specs.Runs.{IsDue, Trace, ext_at, state}
 use Rattle.samoa_core.specs.Since.{cleared_comps}

@@ -14,7 +14,7 @@ use Rattle.samoa_run.specs.declared.words.Order.{Order}
 use Rattle.samoa_run.specs.Statuses.{number}
 use Rattle.samoa_run.specs.Due.{IsAnswerTo, IsPartlyAnswerTo, IsTreated, IsTreatedPartly, has_cells, done_status, due_status, fault_line, status_if, turned_away_line}
 use Rattle.samoa_run.specs.Serving.{Answers, AnswersOne, Ends, Treats, IsDueOrFailed, IsRefused, faulty, turned_away, NoFault, Obeys}
-use Rattle.samoa_run.proofs.Served.{done_ends, due_other, failed, later_status, number-same, one_of, one_reading, refused_status, the_one, unread}
+use Rattle.samoa_run.proofs.Served.{done_ends, due_other, later_status, number-same, one_of, one_reading, refused_status, the_one, unread}
 
 -- what was read, and what was answered for it
 pub record Told (order : Order) (ends : Ends) (status : Status) : Type 0 where
@@ -181,14 +181,3 @@ stopped_by_memory order ends same =
       refused_only = λ input left e. absurd (cc);
     })
     (λ e. absurd (cc)) (λ e. absurd (cc)) (λ input left short e. absurd (cc)) (λ e. absurd (cc)) (λ e. absurd (cc)) (inr (inr (inr (inr (inr refl)))))
-
-pub stopped_by_source : (order : Order) (ends : Ends) → ends.written_after ≡ ends.written → Rose ends.source_faults ends.source_faults_after → Obeys order ends (number SourceFailed)
-stopped_by_source order ends same rose =
-    let W : (found : Result Script ScriptFault) → Option (List ℕ) → Type 0 = λ found new. AnswersOne (due_status order found) (IsAnswerTo order found) (IsPartlyAnswerTo order found) ends.written new (number SourceFailed) in
-    obeyed order ends SourceFailed
-    (record {
-      written = λ input found left reading. subst (W found) (sym same) (failed order found ends.written);
-      complete = λ input found left reading. inr (inl refl);
-      refused_only = λ input left e. absurd (cc);
-    })
-    (λ e. absurd (cc)) (λ e. absurd (cc)) (λ input left short e. absurd (cc)) (λ e. rose) (λ e. absurd (cc)) (inr (inr (inr (inl refl))))

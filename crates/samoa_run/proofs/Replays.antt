@@ -3,11 +3,9 @@ use Rattle.std.proofs.Common.{if◌then◌else◌, ◌≡◌, ◌⊎◌, ◌≤�
 use Rattle.std.specs.declared.option.Option.{Option}
 use Rattle.std.specs.Io.KnownBytes.{IsAtEnd}
 use Rattle.std.proofs.lemmas.Slice.Eq.{bytes_eq-Decides}
-use Rattle.std.proofs.KnownBytes.{Appends-nil}
 use Rattle.samoa_model.specs.declared.record.Step.{Step}
 use Rattle.samoa_model.specs.declared.script.Script.{Script}
 use Rattle.samoa_ends.specs.Causes.{Rose}
-use Rattle.samoa_grammar.specs.Held.{Holds}
 use Rattle.samoa_report.specs.Steps.{step_text, steps_text}
 use Rattle.samoa_report.specs.BadLine.{IsBadLine}
 use Rattle.samoa_report.proofs.StepLines.{nothing_begins, same_steps}
@@ -201,9 +199,6 @@ gives due text status reply is answers statuses rose =
 pub narrow : {status due : Status} → (status ≡ due) ⊎ (status ≡ SinkFailed) → (status ≡ due) ⊎ ((status ≡ SinkFailed) ⊎ (status ≡ Memory))
 narrow (inl is) = inl is
 narrow (inr is) = inr (inl is)
-
-pub gives_none : {is_due : ℕ → List ℕ → Type 0} {old : Option (List ℕ)} {faults faults_after : ℕ} → Gives is_due old old faults faults_after Memory
-gives_none {old = old} = record { replies = silent (inr refl) (Appends-nil old); sink_failed = λ e. absurd (cc); not_source = λ e. absurd (cc) }
 
 -- what is due for a part is due for the whole
 pub gives_more : {is_due also : ℕ → List ℕ → Type 0} {old new : Option (List ℕ)} {faults faults_after : ℕ} {status : Status} → ((due : ℕ) (text : List ℕ) → is_due due text → also due text)

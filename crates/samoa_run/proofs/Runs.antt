@@ -20,14 +20,14 @@ use Rattle.samoa_ticks.specs.declared.stop.Stop.TheVariants as stops
 use Rattle.samoa_ticks.proofs.Parts.{part_after, part_more}
 use Rattle.samoa_ticks.proofs.Written.{begins_all}
 use Rattle.samoa_run.specs.declared.status.Status.{Status}
-use Rattle.samoa_run.specs.declared.status.Status.TheVariants.{Done, Limited, Memory, Refused, SinkFailed}
+use Rattle.samoa_run.specs.declared.status.Status.TheVariants.{Done, Limited, Memory, SinkFailed}
 use Rattle.samoa_run.specs.declared.words.Order.{Order}
 use Rattle.samoa_run.specs.declared.words.Order.TheVariants.{Run}
 use Rattle.samoa_run.specs.Statuses.{number}
-use Rattle.samoa_run.specs.Due.{IsBegun, IsRunOutput, due_status, ended_with, has_cells, run_status, status_if, status_of_run, turned_away_line}
-use Rattle.samoa_run.specs.Serving.{Answers, AnswersOne, Began, Treats}
+use Rattle.samoa_run.specs.Due.{IsBegun, IsRunOutput, due_status, ended_with, has_cells, run_status, status_if, status_of_run}
+use Rattle.samoa_run.specs.Serving.{AnswersOne, Began, Treats}
 use Rattle.samoa_run.specs.Runs.{RunsTo}
-use Rattle.samoa_run.proofs.Served.{number-same, run_ends, treats, turns_away}
+use Rattle.samoa_run.proofs.Served.{number-same, run_ends, treats}
 
 -- where the status is 0, the limit did not end the run
 unlimited : (b : Bool) → status_of_run b ≡ 0 → b ≡ false
@@ -180,17 +180,3 @@ run_treats script workers cells calls journal given core old new faults faults_a
     named (inl is) = inl (is ∙ sym (ap (λ (b : Bool). status_if b (Run workers cells calls journal) script) can))
     named (inr (inl is)) = inr (inl (number-same status SinkFailed is))
     named (inr (inr is)) = inr (inr (number-same status Memory is))
-
--- the cells are too few
-pub few_treats : (script : Script) (workers cells : ℕ) (calls journal : Bool) (old new : Option (List ℕ)) (faults faults_after : ℕ) (status : Status)
-    → has_cells (Run workers cells calls journal) script ≡ false → Answers (number Refused) (turned_away_line (Run workers cells calls journal) script) old new (number status)
-    → (status ≡ Refused) ⊎ ((status ≡ SinkFailed) ⊎ (status ≡ Memory)) → (status ≡ SinkFailed → Rose faults faults_after)
-    → Treats (Run workers cells calls journal) script old new faults faults_after status
-few_treats script workers cells calls journal old new faults faults_after status can answers is rose =
-    let order : Order = Run workers cells calls journal in
-    record { written = turns_away order script (turned_away_line order script) can refl answers; statuses = named is; sink_failed = rose }
-  where
-    named : (status ≡ Refused) ⊎ ((status ≡ SinkFailed) ⊎ (status ≡ Memory))
-        → (number status ≡ due_status (Run workers cells calls journal) (Ok script)) ⊎ ((status ≡ SinkFailed) ⊎ (status ≡ Memory))
-    named (inl e) = inl (ap number e ∙ sym (ap (λ (b : Bool). status_if b (Run workers cells calls journal) script) can))
-    named (inr e) = inr e

@@ -1,16 +1,13 @@
 -- The parts of a report, as they are written.
-use Rattle.std.proofs.Common.{◌≡◌, ℕ, Bool, ◌++◌, List, [], sym, subst}
+use Rattle.std.proofs.Common.{ℕ, Bool, List, [], sym, subst}
 use Rattle.std.specs.declared.option.Option.{Option}
-use Rattle.std.specs.Io.KnownBytes.{Appends}
-use Rattle.std.proofs.KnownBytes.{Appends-trans}
-use Rattle.samoa_model.specs.declared.record.Ext.{Ext}
 use Rattle.samoa_model.specs.declared.script.Script.{Script}
 use Rattle.samoa_serial.specs.LimitedReport.{report_in_full}
 use Rattle.samoa_serial.specs.Ticks.{admitted}
 use Rattle.samoa_ends.specs.Pieces.{AppendsPrefix}
-use Rattle.samoa_ledger.specs.Written.{closing_text, later_text}
+use Rattle.samoa_ledger.specs.Written.{later_text}
 use Rattle.samoa_ledger.proofs.Closing.{report-is}
-use Rattle.samoa_ticks.proofs.Parts.{part_after, part_more}
+use Rattle.samoa_ticks.proofs.Parts.{part_more}
 
 -- a part of the computations was written
 pub report_begun : (script : Script) (calls : Bool) (old new : Option (List ℕ)) → AppendsPrefix old new (later_text script calls [] (admitted script))

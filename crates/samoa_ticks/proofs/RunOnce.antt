@@ -2,7 +2,6 @@
 use Rattle.std.proofs.Common.{arith, ◌≡◌, ℕ, ◌<◌, ◌≤◌, Bool, true, sym, ap, subst, ◌∙◌, List, [], ◌++◌, length, take, drop, if◌then◌else◌, nat_lt}
 use Rattle.std.proofs.Math.Seq.{take-append_seam, drop-append_seam}
 use Rattle.std.proofs.lemmas.Bool.Decides.{nat_tests}
-use Rattle.std.specs.List.{All}
 use Rattle.samoa_model.specs.declared.record.Ext.{Ext}
 use Rattle.samoa_model.specs.declared.script.Script.{Script}
 use Rattle.samoa_model.specs.Cells.{need}
@@ -13,9 +12,7 @@ use Rattle.samoa_invariant.proofs.representation.Traces.{state-clear}
 use Rattle.samoa_core.specs.Later.{IsLater}
 use Rattle.samoa_core.specs.Since.{cleared_comps}
 use Rattle.samoa_core.proofs.Since.{cleared-clear}
-use Rattle.samoa_net.specs.Gathered.{Gathered}
 use Rattle.samoa_ledger.specs.declared.totals.Totals.{Totals}
-use Rattle.samoa_ledger.specs.Gathering.{HasGathered}
 use Rattle.samoa_ticks.specs.Running.{HasOpened, HasRun}
 use Rattle.samoa_ledger.specs.Written.{AreTotals, later_text}
 

@@ -1,5 +1,5 @@
 -- How far a report is written: at first, and with a tick more.
-use Rattle.std.proofs.Common.{◌≡◌, refl, sym, ap, subst, ◌∙◌, arith, ℕ, ◌⊎◌, inl, inr, ◌+◌, ◌-◌, ◌<◌, ◌≤◌, Bool, true, false, min, filter, if◌then◌else◌, List, [], ◌++◌, append_assoc, append-nil, length, length-drop, take, take-append-drop, drop, nat_lt}
+use Rattle.std.proofs.Common.{◌≡◌, refl, sym, ap, subst, ◌∙◌, arith, ℕ, ◌⊎◌, inl, inr, ◌+◌, ◌-◌, ◌<◌, ◌≤◌, Bool, true, false, min, filter, if◌then◌else◌, List, [], ◌++◌, append_assoc, length, length-drop, take, take-append-drop, drop, nat_lt}
 use Rattle.std.specs.List.{All}
 use Rattle.std.proofs.Math.Seq.{drop-drop}
 use Rattle.std.proofs.lemmas.Bool.{cases_order, false≢true}

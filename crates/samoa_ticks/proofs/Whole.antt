@@ -1,10 +1,9 @@
 -- The journal of a run that came to its end.
-use Rattle.std.proofs.Common.{◌≡◌, ap, sym, subst, ◌∙◌, ◌≤◌, Bool, false, [], length}
+use Rattle.std.proofs.Common.{◌≡◌, ap, sym, subst, ◌∙◌, ◌≤◌, length}
 use Rattle.samoa_model.specs.declared.script.Script.{Script}
 use Rattle.samoa_serial.specs.Ticks.{admitted}
 use Rattle.samoa_invariant.specs.Runs.{IsRun, Trace, state}
 use Rattle.samoa_journal.specs.Finished.{IsFinished, most_cells}
-use Rattle.samoa_journal.specs.Parts.{IsPacked}
 use Rattle.samoa_journal.proofs.Opens.{parts_open}
 use Rattle.samoa_journal.proofs.Roomier.{finished_run}
 use Rattle.samoa_ticks.specs.declared.report.Report.{Report}

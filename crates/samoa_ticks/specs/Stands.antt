@@ -1,10 +1,9 @@
 -- How far a report is written.
-use Rattle.std.specs.Prelude.{◌≡◌, ◌<◌, ◌≤◌, ◌+◌, ℕ, false, List, ◌++◌, length, take, drop, slice_get, Some}
-use Rattle.std.specs.List.{All}
+use Rattle.std.specs.Prelude.{◌≡◌, ◌<◌, ◌≤◌, ◌+◌, ℕ, false, List, length, take, drop, slice_get, Some}
 use Rattle.samoa_model.specs.declared.record.Ext.{Ext}
 use Rattle.samoa_model.specs.declared.script.Script.{Script}
 use Rattle.samoa_model.specs.Cells.{cells_of}
-use Rattle.samoa_serial.specs.Ticks.{admitted_by, is_limited_by, most_admitted}
+use Rattle.samoa_serial.specs.Ticks.{is_limited_by, most_admitted}
 use Rattle.samoa_invariant.specs.State.{AllEnded, NothingOut}
 use Rattle.samoa_invariant.specs.Runs.{Trace, state}
 use Rattle.samoa_core.specs.Later.{IsLater}
