@@ -165,12 +165,6 @@ treats order script {old = old} {new = new} {status = status} can answers =
     let F : Bool → Type 0 = λ b. AnswersOne (status_if b order script) (IsTreated b order script) (IsTreatedPartly b order script) old new status in
     subst F (sym can) answers
 
-pub turns_away : (order : Order) (script : Script) {old new : Option (List ℕ)} {status : ℕ} (text : List ℕ) → has_cells order script ≡ false → text ≡ turned_away_line order script
-    → Answers (number Refused) text old new status → AnswersOne (due_status order (Ok script)) (IsAnswerTo order (Ok script)) (IsPartlyAnswerTo order (Ok script)) old new status
-turns_away order script {old = old} {new = new} {status = status} text can is answers =
-    let F : Bool → Type 0 = λ b. AnswersOne (status_if b order script) (IsTreated b order script) (IsTreatedPartly b order script) old new status in
-    subst F (sym can) (one_of text is is answers)
-
 pub not_memory : (fault : ScriptFault) → is_memory fault ≡ false → fault ≡ Memory → ⊥
 not_memory fault other is = let yes : is_memory fault ≡ true = ap is_memory is in absurd (cc)
 
