@@ -3,4 +3,10 @@ pub mod Chains
 pub mod Dedup
 pub mod Instrs
 pub mod Lists
-pub mod Reference
+mod ReferenceInstructions
+mod ReferenceMeaning
+mod ReferenceNames
+mod ReferenceObjects
+mod ReferenceTotals
+pub mod ReferenceTrees
+mod ReferenceWalk

@@ -1,0 +1,335 @@
+-- The form of each object of a script: trees, and beside each the fault that the reference program finds in it.
+use Rattle.std.specs.Prelude.{negsuc, true, List, [], ◌∷◌, codes, Option, None, refl}
+use Rattle.serde_json.specs.Data.{Data, null, boolean, number, negative}
+use Rattle.samoa_grammar.specs.declared.fault.WalkFault.{WalkFault}
+use Rattle.samoa_grammar.specs.Instrs.{instr_in}
+use Rattle.samoa_grammar.specs.Forms.{micro_fault, code_fault, bound_fault, decl_fault, event_fault, table_fault, change_fault, do_fault, loss_fault, crash_fault}
+use Rattle.samoa_grammar.proofs.ReferenceTrees.{str, num, arr, obj, but, without, times, missing, wrong, over, Answers}
+
+abbrev handler_h : Data
+handler_h = obj (("name", str "h") ∷ ("code", arr []) ∷ [])
+
+-- a handler of a microprotocol
+abbrev handlers : List (Data × Option WalkFault)
+handlers =
+    -- names have up to sixteen small letters, digits and _, and begin with a letter
+    (but handler_h "name" (num 5), wrong "name") ∷
+    (but handler_h "name" (str ""), wrong "name") ∷
+    (but handler_h "name" (str "abcdefghijklmnopq"), wrong "name") ∷
+    (but handler_h "name" (str "abcdefghijklmnop"), None) ∷
+    (but handler_h "name" (str "a_9z"), None) ∷
+    (but handler_h "name" (str "9"), wrong "name") ∷
+    (but handler_h "name" (str "_a"), wrong "name") ∷
+    (but handler_h "name" (str "A"), wrong "name") ∷
+    (but handler_h "name" (str "a-b"), wrong "name") ∷
+    (but handler_h "name" (str "a.b"), wrong "name") ∷
+    -- keys
+    (without handler_h "name", missing "name") ∷
+    (without handler_h "code", missing "code") ∷
+    (but handler_h "more" (num 1), wrong "handlers") ∷
+    (arr [], wrong "handlers") ∷
+    (null, wrong "handlers") ∷
+    -- a list of instructions, 32 at most; the form of its items comes before its length
+    (but handler_h "code" (obj []), wrong "code") ∷
+    (but handler_h "code" (arr (arr [] ∷ [])), wrong "code") ∷
+    (but handler_h "code" (arr (times 32 (arr (str "done" ∷ num 1 ∷ [])))), None) ∷
+    (but handler_h "code" (arr (times 33 (arr (str "done" ∷ num 1 ∷ [])))), over "code" 32) ∷
+    (but handler_h "code" (arr (times 33 (arr (str "done" ∷ num 5 ∷ [])))), wrong "code") ∷
+    []
+
+handlers_answered : Answers (code_fault (codes "handlers")) handlers
+unfolding code_fault instr_in
+handlers_answered = refl
+
+abbrev handler_g : Data
+handler_g = but handler_h "name" (str "g")
+
+abbrev micro_a : Data
+micro_a = obj (("name", str "a") ∷ ("kind", str "prog") ∷ ("ports", arr (str "e" ∷ [])) ∷ ("changes", arr (str "c" ∷ [])) ∷ ("handlers", arr (handler_h ∷ handler_g ∷ [])) ∷ [])
+
+abbrev micro_l : Data
+micro_l = obj (("name", str "l") ∷ ("kind", str "link") ∷ ("ports", arr (str "e" ∷ [])) ∷ [])
+
+-- a microprotocol
+abbrev microprotocols : List (Data × Option WalkFault)
+microprotocols =
+    (micro_l, None) ∷
+    (micro_a, None) ∷
+    (without micro_l "ports", None) ∷
+    -- every kind, and none
+    (but micro_l "kind" (str "fd"), None) ∷
+    (but micro_l "kind" (str "rbcast"), None) ∷
+    (but micro_l "kind" (str "cons"), None) ∷
+    (but micro_l "kind" (str "abcast"), None) ∷
+    (but micro_l "kind" (str "seqcast"), None) ∷
+    (but micro_l "kind" (str "repl"), None) ∷
+    (but micro_l "kind" (str "views"), None) ∷
+    (but micro_l "kind" (str "linked"), wrong "kind") ∷
+    (but micro_l "kind" (num 1), wrong "kind") ∷
+    (without micro_l "kind", missing "kind") ∷
+    -- handlers belong to the scripted kind, and to a kind that isn't known
+    (but micro_l "handlers" (arr (handler_h ∷ [])), wrong "micros") ∷
+    (but micro_a "kind" (str "x"), wrong "kind") ∷
+    (without micro_a "kind", missing "kind") ∷
+    (without micro_a "handlers", missing "handlers") ∷
+    (but micro_a "handlers" (arr []), wrong "handlers") ∷
+    (but micro_a "handlers" (num 5), wrong "handlers") ∷
+    (but micro_a "handlers" (arr (times 16 handler_h)), None) ∷
+    (but micro_a "handlers" (arr (times 17 handler_h)), over "handlers" 16) ∷
+    (but micro_a "handlers" (arr (handler_h ∷ num 5 ∷ [])), wrong "handlers") ∷
+    (but micro_a "handlers" (arr (handler_h ∷ without handler_h "code" ∷ [])), missing "code") ∷
+    -- other keys
+    (without micro_l "name", missing "name") ∷
+    (but micro_l "name" (str "L"), wrong "name") ∷
+    (but micro_l "form" (str "set"), wrong "micros") ∷
+    (arr (micro_l ∷ []), wrong "micros") ∷
+    -- lists with a limit
+    (but micro_l "nums" (arr (times 12 (num 18446744073709551615))), None) ∷
+    (but micro_l "nums" (arr (times 13 (num 0))), over "nums" 12) ∷
+    (but micro_l "nums" (arr (number (negative (negsuc 0)) ∷ [])), wrong "nums") ∷
+    (but micro_l "nums" (num 1), wrong "nums") ∷
+    (but micro_l "ports" (arr (times 16 (str "e"))), None) ∷
+    (but micro_l "ports" (arr (times 17 (str "e"))), over "ports" 16) ∷
+    (but micro_l "ports" (arr (times 17 (num 1))), wrong "ports") ∷
+    (but micro_l "ports" (str "e"), wrong "ports") ∷
+    (but micro_l "changes" (arr (times 16 (str "c"))), None) ∷
+    (but micro_l "changes" (arr (times 17 (str "c"))), over "changes" 16) ∷
+    (but micro_l "changes" (arr (str "c" ∷ str "" ∷ [])), wrong "changes") ∷
+    -- the first key of the table that has a fault tells it
+    (but (but (but micro_l "ports" (num 1)) "nums" (num 1)) "changes" (num 1), wrong "nums") ∷
+    (but (but micro_l "ports" (num 1)) "changes" (num 1), wrong "ports") ∷
+    (obj (("kind", num 1) ∷ ("name", num 1) ∷ []), wrong "name") ∷
+    []
+
+microprotocols_answered : Answers (micro_fault (codes "micros")) microprotocols
+unfolding micro_fault code_fault instr_in
+microprotocols_answered = refl
+
+abbrev bound_of_a : Data
+bound_of_a = obj (("micro", str "a") ∷ ("calls", num 3) ∷ [])
+
+-- an item of bounds
+abbrev bounds : List (Data × Option WalkFault)
+bounds =
+    (bound_of_a, None) ∷
+    (without bound_of_a "micro", missing "micro") ∷
+    (but bound_of_a "micro" (num 1), wrong "micro") ∷
+    (without bound_of_a "calls", missing "calls") ∷
+    (but bound_of_a "calls" (num 1), None) ∷
+    (but bound_of_a "calls" (num 0), wrong "calls") ∷
+    (but bound_of_a "calls" (num 256), None) ∷
+    (but bound_of_a "calls" (num 257), over "calls" 256) ∷
+    (but bound_of_a "calls" (boolean true), wrong "calls") ∷
+    (but bound_of_a "budget" (num 1), wrong "bounds") ∷
+    []
+
+bounds_answered : Answers (bound_fault (codes "bounds")) bounds
+unfolding bound_fault
+bounds_answered = refl
+
+abbrev set_s : Data
+set_s = obj (("name", str "s") ∷ ("form", str "set") ∷ ("micros", arr (str "a" ∷ [])) ∷ [])
+
+abbrev bound_b : Data
+bound_b = obj (("name", str "b") ∷ ("form", str "bound") ∷ ("bounds", arr (bound_of_a ∷ [])) ∷ [])
+
+abbrev route_r : Data
+route_r = obj (("name", str "r") ∷ ("form", str "route") ∷ ("roots", arr (str "a.h" ∷ [])) ∷ ("edges", arr (arr (str "a.h" ∷ str "a.g" ∷ []) ∷ [])) ∷ [])
+
+-- a declaration
+abbrev declarations : List (Data × Option WalkFault)
+declarations =
+    (set_s, None) ∷
+    (bound_b, None) ∷
+    (route_r, None) ∷
+    -- the form, and the keys of each
+    (without set_s "form", missing "form") ∷
+    (but set_s "form" (str "sets"), wrong "form") ∷
+    (but set_s "form" (num 1), wrong "form") ∷
+    (but set_s "bounds" (arr []), wrong "decls") ∷
+    (but bound_b "edges" (arr []), wrong "decls") ∷
+    (but route_r "micros" (arr []), wrong "decls") ∷
+    (obj (("name", str "d") ∷ ("form", str "x") ∷ ("micros", arr []) ∷ ("bounds", arr []) ∷ ("roots", arr []) ∷ ("edges", arr []) ∷ []), wrong "form") ∷
+    (obj (("name", str "d") ∷ ("micros", arr []) ∷ ("bounds", arr []) ∷ ("roots", arr []) ∷ ("edges", arr []) ∷ []), missing "form") ∷
+    (but set_s "other" (num 1), wrong "decls") ∷
+    -- the name and the budget
+    (without set_s "name", missing "name") ∷
+    (but set_s "name" (num 1), wrong "name") ∷
+    (but set_s "budget" (num 1), None) ∷
+    (but set_s "budget" (num 0), wrong "budget") ∷
+    (but set_s "budget" (num 256), None) ∷
+    (but set_s "budget" (num 257), over "budget" 256) ∷
+    (but set_s "budget" (str "1"), wrong "budget") ∷
+    -- a set
+    (without set_s "micros", missing "micros") ∷
+    (but set_s "micros" (arr []), wrong "micros") ∷
+    (but set_s "micros" (arr (times 24 (str "a"))), None) ∷
+    (but set_s "micros" (arr (times 25 (str "a"))), over "micros" 24) ∷
+    (but set_s "micros" (arr (num 1 ∷ [])), wrong "micros") ∷
+    -- a bound
+    (without bound_b "bounds", missing "bounds") ∷
+    (but bound_b "bounds" (arr []), wrong "bounds") ∷
+    (but bound_b "bounds" (arr (times 24 bound_of_a)), None) ∷
+    (but bound_b "bounds" (arr (times 25 bound_of_a)), over "bounds" 24) ∷
+    (but bound_b "bounds" (arr (str "a" ∷ [])), wrong "bounds") ∷
+    (but bound_b "bounds" (arr (without bound_of_a "calls" ∷ [])), missing "calls") ∷
+    -- a route
+    (without route_r "roots", missing "roots") ∷
+    (but route_r "roots" (arr []), None) ∷
+    (but route_r "roots" (arr (times 32 (str "a.h"))), None) ∷
+    (but route_r "roots" (arr (times 33 (str "a.h"))), over "roots" 32) ∷
+    (but route_r "roots" (arr (str "a" ∷ [])), wrong "roots") ∷
+    (but route_r "roots" (arr (str "a.h.h" ∷ [])), wrong "roots") ∷
+    (but route_r "roots" (arr (str "a." ∷ [])), wrong "roots") ∷
+    (but route_r "roots" (arr (str ".h" ∷ [])), wrong "roots") ∷
+    (without route_r "edges", None) ∷
+    (but route_r "edges" (arr (times 256 (arr (str "a.h" ∷ str "a.g" ∷ [])))), None) ∷
+    (but route_r "edges" (arr (times 257 (arr (str "a.h" ∷ str "a.g" ∷ [])))), over "edges" 256) ∷
+    (but route_r "edges" (arr (arr (str "a.h" ∷ []) ∷ [])), wrong "edges") ∷
+    (but route_r "edges" (arr (arr (str "a.h" ∷ str "a.g" ∷ str "a.g" ∷ []) ∷ [])), wrong "edges") ∷
+    (but route_r "edges" (arr (arr (str "a.h" ∷ str "g" ∷ []) ∷ [])), wrong "edges") ∷
+    (but route_r "edges" (arr (arr (str "h" ∷ str "a.g" ∷ []) ∷ [])), wrong "edges") ∷
+    (but route_r "edges" (obj []), wrong "edges") ∷
+    []
+
+declarations_answered : Answers (decl_fault (codes "decls")) declarations
+unfolding decl_fault bound_fault
+declarations_answered = refl
+
+abbrev event_e : Data
+event_e = obj (("name", str "e") ∷ ("decl", str "s") ∷ ("handlers", arr (str "a.h" ∷ [])) ∷ [])
+
+-- an event
+abbrev events : List (Data × Option WalkFault)
+events =
+    (event_e, None) ∷
+    (but event_e "handlers" (arr []), None) ∷
+    (without event_e "name", missing "name") ∷
+    (but event_e "name" (num 1), wrong "name") ∷
+    (without event_e "decl", missing "decl") ∷
+    (but event_e "decl" (arr []), wrong "decl") ∷
+    (without event_e "handlers", missing "handlers") ∷
+    (but event_e "handlers" (arr (str "a.h" ∷ str "a.h" ∷ str "a.h" ∷ str "a.h" ∷ [])), None) ∷
+    (but event_e "handlers" (arr (times 5 (str "a.h"))), over "handlers" 4) ∷
+    (but event_e "handlers" (arr (str "a" ∷ [])), wrong "handlers") ∷
+    (but event_e "event" (str "e"), wrong "events") ∷
+    []
+
+events_answered : Answers (event_fault (codes "events")) events
+unfolding event_fault
+events_answered = refl
+
+abbrev row_e : Data
+row_e = obj (("event", str "e") ∷ ("handlers", arr (str "a.g" ∷ [])) ∷ [])
+
+-- a row of a change's table
+abbrev rows : List (Data × Option WalkFault)
+rows =
+    (row_e, None) ∷
+    (without row_e "event", missing "event") ∷
+    (but row_e "event" (num 1), wrong "event") ∷
+    (without row_e "handlers", missing "handlers") ∷
+    (but row_e "handlers" (arr (str "a.h" ∷ str "a.h" ∷ str "a.h" ∷ str "a.h" ∷ [])), None) ∷
+    (but row_e "handlers" (arr (times 5 (str "a.h"))), over "handlers" 4) ∷
+    (but row_e "handlers" (arr (str "h" ∷ [])), wrong "handlers") ∷
+    (but row_e "name" (str "e"), wrong "table") ∷
+    []
+
+rows_answered : Answers (table_fault (codes "table")) rows
+unfolding table_fault
+rows_answered = refl
+
+abbrev change_c : Data
+change_c = obj (("name", str "c") ∷ ("event", str "e") ∷ ("table", arr (row_e ∷ [])) ∷ [])
+
+-- a change of bindings
+abbrev changes : List (Data × Option WalkFault)
+changes =
+    (change_c, None) ∷
+    (without change_c "name", missing "name") ∷
+    (but change_c "name" (num 1), wrong "name") ∷
+    (without change_c "event", missing "event") ∷
+    (but change_c "event" (num 1), wrong "event") ∷
+    (without change_c "table", missing "table") ∷
+    (but change_c "table" (arr []), wrong "table") ∷
+    (but change_c "table" (arr (times 16 row_e)), None) ∷
+    (but change_c "table" (arr (times 17 row_e)), over "table" 16) ∷
+    (but change_c "table" (arr (num 1 ∷ [])), wrong "table") ∷
+    (but change_c "table" (arr (row_e ∷ without row_e "event" ∷ [])), missing "event") ∷
+    (but change_c "handlers" (arr []), wrong "changes") ∷
+    []
+
+changes_answered : Answers (change_fault (codes "changes")) changes
+unfolding change_fault table_fault
+changes_answered = refl
+
+abbrev item_e : Data
+item_e = obj (("tick", num 1) ∷ ("node", num 0) ∷ ("event", str "e") ∷ [])
+
+-- an item of do
+abbrev items : List (Data × Option WalkFault)
+items =
+    (item_e, None) ∷
+    (but (without item_e "event") "change" (str "c"), None) ∷
+    -- one of event and change
+    (but item_e "change" (str "c"), wrong "do") ∷
+    (without item_e "event", wrong "do") ∷
+    (but item_e "event" (num 1), wrong "event") ∷
+    (but (without item_e "event") "change" (num 1), wrong "change") ∷
+    -- ticks begin at 1, nodes at 0
+    (without item_e "tick", missing "tick") ∷
+    (but item_e "tick" (num 0), wrong "tick") ∷
+    (but item_e "tick" (num 18446744073709551615), None) ∷
+    (without item_e "node", missing "node") ∷
+    (but item_e "node" (str "0"), wrong "node") ∷
+    (but item_e "node" (num 18446744073709551615), None) ∷
+    -- arguments
+    (but item_e "args" (arr (times 12 (num 1))), None) ∷
+    (but item_e "args" (arr (times 13 (num 1))), over "args" 12) ∷
+    (but item_e "args" (arr (str "1" ∷ [])), wrong "args") ∷
+    (but item_e "arg" (num 1), wrong "do") ∷
+    []
+
+items_answered : Answers (do_fault (codes "do")) items
+unfolding do_fault
+items_answered = refl
+
+abbrev loss_of_all : Data
+loss_of_all = obj (("from", num 0) ∷ ("to", num 1) ∷ ("first", num 0) ∷ ("last", num 9) ∷ [])
+
+-- a loss
+abbrev losses : List (Data × Option WalkFault)
+losses =
+    (loss_of_all, None) ∷
+    (without loss_of_all "from", missing "from") ∷
+    (without loss_of_all "to", missing "to") ∷
+    (without loss_of_all "first", missing "first") ∷
+    (without loss_of_all "last", missing "last") ∷
+    (but loss_of_all "from" (str "1"), wrong "from") ∷
+    (but loss_of_all "to" (str "1"), wrong "to") ∷
+    (but loss_of_all "first" (str "1"), wrong "first") ∷
+    (but loss_of_all "last" (str "1"), wrong "last") ∷
+    (but loss_of_all "node" (num 0), wrong "lose") ∷
+    []
+
+losses_answered : Answers (loss_fault (codes "lose")) losses
+unfolding loss_fault
+losses_answered = refl
+
+abbrev crash_of_1 : Data
+crash_of_1 = obj (("node", num 1) ∷ ("tick", num 2) ∷ [])
+
+-- a crash
+abbrev crashes : List (Data × Option WalkFault)
+crashes =
+    (crash_of_1, None) ∷
+    (without crash_of_1 "node", missing "node") ∷
+    (without crash_of_1 "tick", missing "tick") ∷
+    (but crash_of_1 "node" (str "1"), wrong "node") ∷
+    (but crash_of_1 "tick" (str "1"), wrong "tick") ∷
+    (but crash_of_1 "to" (num 0), wrong "crash") ∷
+    []
+
+crashes_answered : Answers (crash_fault (codes "crash")) crashes
+unfolding crash_fault
+crashes_answered = refl
