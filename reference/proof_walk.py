@@ -493,19 +493,22 @@ FEWEST_KEYS = {
 }
 
 
-def lines_of(value):
-    """A tree with the items of a list of objects in lines of their own."""
-    if isinstance(value, list) and value and isinstance(value[0], dict):
-        return f"arr (\n{terms.rows([terms.tree(item, {}) for item in value], 8)})"
-    return terms.tree(value, {})
+def named_lists(name, tree):
+    """The lists of several objects of a tree, by key, each with a name of its own."""
+    return {key: f"{name}_{key}" for key, value in tree.items()
+            if isinstance(value, list) and len(value) > 1 and isinstance(value[0], dict)}
 
 
 def meaning(name, note, tree):
     """The lemma on what a tree means: the script that is read from its text."""
     read = script.read_script(samples.text(tree).encode())
     fields = {**terms.happening_fields(read), **terms.stack_fields(read)}
-    members = "".join(f"    ({terms.text(key)}, {lines_of(value)}) ∷\n" for key, value in tree.items())
-    return (f"-- {note}\nabbrev {name} : Data\n{name} = obj (\n{members}    [])\n\n"
+    lists = named_lists(name, tree)
+    before = "".join(f"abbrev {own} : List Data\n{own} =\n{terms.rows([terms.tree(item, {}) for item in tree[key]])}\n\n"
+                     for key, own in lists.items())
+    members = terms.chain(f"({terms.text(key)}, {f'arr {lists[key]}' if key in lists else terms.tree(value, {})})"
+                          for key, value in tree.items())
+    return (f"-- {note}\n{before}abbrev {name} : Data\n{name} = obj ({members})\n\n"
             f"{name}_meant : script_meant {name} ≡ {terms.record(fields)}\n"
             f"unfolding {MEANING}\n{name}_meant = refl\n")
 

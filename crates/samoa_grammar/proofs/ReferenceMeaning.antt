@@ -1,5 +1,5 @@
 -- What trees without a fault mean: the scripts that the reference program reads in them.
-use Rattle.std.specs.Prelude.{◌≡◌, [], ◌∷◌, codes, refl}
+use Rattle.std.specs.Prelude.{◌≡◌, List, [], ◌∷◌, codes, refl}
 use Rattle.serde_json.specs.Data.{Data}
 use Rattle.samoa_model.specs.declared.setup.Place.TheVariants.{Reg, Local}
 use Rattle.samoa_model.specs.declared.setup.Instr.TheVariants as instr
@@ -13,60 +13,46 @@ use Rattle.samoa_grammar.specs.Meaning.{script_of, micro_meant, decl_meant, even
 use Rattle.samoa_grammar.proofs.ReferenceTrees.{event, change, handler, node, str, num, arr, obj}
 
 -- something of each sort
+abbrev everything_micros : List Data
+everything_micros =
+    obj (("name", str "a") ∷ ("kind", str "prog") ∷ ("nums", arr (num 5 ∷ num 6 ∷ [])) ∷ ("ports", arr (str "e" ∷ str "f" ∷ [])) ∷ ("changes", arr (str "d" ∷ str "c" ∷ [])) ∷ ("handlers", arr (obj (("name", str "h") ∷ ("code", arr (arr (str "set" ∷ str "r0" ∷ num 7 ∷ []) ∷ arr (str "copy" ∷ str "x1" ∷ str "r0" ∷ []) ∷ arr (str "add" ∷ str "r2" ∷ str "x0" ∷ []) ∷ arr (str "sub" ∷ str "r3" ∷ str "x1" ∷ []) ∷ arr (str "less" ∷ str "x0" ∷ str "x1" ∷ num 2 ∷ []) ∷ arr (str "call" ∷ num 1 ∷ num 2 ∷ []) ∷ arr (str "later" ∷ num 0 ∷ num 0 ∷ []) ∷ arr (str "send" ∷ str "x3" ∷ num 1 ∷ num 4 ∷ []) ∷ arr (str "deliver" ∷ num 3 ∷ []) ∷ arr (str "change" ∷ num 1 ∷ num 1 ∷ []) ∷ arr (str "done" ∷ num 1 ∷ []) ∷ [])) ∷ []) ∷ obj (("name", str "g") ∷ ("code", arr []) ∷ []) ∷ [])) ∷ []) ∷
+    obj (("name", str "l") ∷ ("kind", str "link") ∷ ("ports", arr (str "f" ∷ [])) ∷ []) ∷
+    obj (("name", str "k_fd") ∷ ("kind", str "fd") ∷ ("ports", arr (str "f" ∷ str "e" ∷ str "f" ∷ [])) ∷ []) ∷
+    obj (("name", str "k_rbcast") ∷ ("kind", str "rbcast") ∷ ("ports", arr (str "f" ∷ str "e" ∷ str "f" ∷ [])) ∷ []) ∷
+    obj (("name", str "k_cons") ∷ ("kind", str "cons") ∷ ("ports", arr (str "f" ∷ str "e" ∷ str "f" ∷ [])) ∷ []) ∷
+    obj (("name", str "k_abcast") ∷ ("kind", str "abcast") ∷ ("ports", arr (str "f" ∷ str "e" ∷ str "f" ∷ [])) ∷ []) ∷
+    obj (("name", str "k_seqcast") ∷ ("kind", str "seqcast") ∷ ("ports", arr (str "f" ∷ str "e" ∷ str "f" ∷ [])) ∷ []) ∷
+    obj (("name", str "k_repl") ∷ ("kind", str "repl") ∷ ("ports", arr (str "f" ∷ str "e" ∷ str "f" ∷ [])) ∷ []) ∷
+    obj (("name", str "k_views") ∷ ("kind", str "views") ∷ ("ports", arr (str "f" ∷ str "e" ∷ str "f" ∷ [])) ∷ []) ∷
+    []
+
+abbrev everything_decls : List Data
+everything_decls =
+    obj (("name", str "s") ∷ ("form", str "set") ∷ ("micros", arr (str "l" ∷ str "a" ∷ [])) ∷ []) ∷
+    obj (("name", str "b") ∷ ("form", str "bound") ∷ ("budget", num 7) ∷ ("bounds", arr (obj (("micro", str "l") ∷ ("calls", num 1) ∷ []) ∷ obj (("micro", str "a") ∷ ("calls", num 3) ∷ []) ∷ [])) ∷ []) ∷
+    obj (("name", str "r") ∷ ("form", str "route") ∷ ("budget", num 256) ∷ ("roots", arr (str "a.h" ∷ str "l.recv" ∷ str "a.h" ∷ [])) ∷ ("edges", arr (arr (str "a.g" ∷ str "a.h" ∷ []) ∷ arr (str "a.g" ∷ str "k_cons.suspect" ∷ []) ∷ arr (str "a.g" ∷ str "a.h" ∷ []) ∷ [])) ∷ []) ∷
+    []
+
+abbrev everything_events : List Data
+everything_events =
+    obj (("name", str "e") ∷ ("decl", str "r") ∷ ("handlers", arr (str "a.g" ∷ str "k_abcast.decided" ∷ [])) ∷ []) ∷
+    obj (("name", str "f") ∷ ("decl", str "b") ∷ ("handlers", arr []) ∷ []) ∷
+    []
+
+abbrev everything_changes : List Data
+everything_changes =
+    obj (("name", str "c") ∷ ("event", str "f") ∷ ("table", arr (obj (("event", str "e") ∷ ("handlers", arr (str "k_repl.switched" ∷ str "k_seqcast.recv" ∷ [])) ∷ []) ∷ [])) ∷ []) ∷
+    obj (("name", str "d") ∷ ("event", str "e") ∷ ("table", arr (obj (("event", str "f") ∷ ("handlers", arr []) ∷ []) ∷ obj (("event", str "e") ∷ ("handlers", arr (str "a.h" ∷ [])) ∷ []) ∷ [])) ∷ []) ∷
+    []
+
+abbrev everything_do : List Data
+everything_do =
+    obj (("tick", num 3) ∷ ("node", num 1) ∷ ("event", str "f") ∷ ("args", arr (num 1 ∷ num 2 ∷ [])) ∷ []) ∷
+    obj (("tick", num 1) ∷ ("node", num 0) ∷ ("change", str "d") ∷ []) ∷
+    []
+
 abbrev everything : Data
-everything = obj (
-    ("version", num 1) ∷
-    ("nodes", num 2) ∷
-    ("ticks", num 3) ∷ (
-      "micros",
-      arr (
-          obj (("name", str "a") ∷ ("kind", str "prog") ∷ ("nums", arr (num 5 ∷ num 6 ∷ [])) ∷ ("ports", arr (str "e" ∷ str "f" ∷ [])) ∷ ("changes", arr (str "d" ∷ str "c" ∷ [])) ∷ ("handlers", arr (obj (("name", str "h") ∷ ("code", arr (arr (str "set" ∷ str "r0" ∷ num 7 ∷ []) ∷ arr (str "copy" ∷ str "x1" ∷ str "r0" ∷ []) ∷ arr (str "add" ∷ str "r2" ∷ str "x0" ∷ []) ∷ arr (str "sub" ∷ str "r3" ∷ str "x1" ∷ []) ∷ arr (str "less" ∷ str "x0" ∷ str "x1" ∷ num 2 ∷ []) ∷ arr (str "call" ∷ num 1 ∷ num 2 ∷ []) ∷ arr (str "later" ∷ num 0 ∷ num 0 ∷ []) ∷ arr (str "send" ∷ str "x3" ∷ num 1 ∷ num 4 ∷ []) ∷ arr (str "deliver" ∷ num 3 ∷ []) ∷ arr (str "change" ∷ num 1 ∷ num 1 ∷ []) ∷ arr (str "done" ∷ num 1 ∷ []) ∷ [])) ∷ []) ∷ obj (("name", str "g") ∷ ("code", arr []) ∷ []) ∷ [])) ∷ []) ∷
-          obj (("name", str "l") ∷ ("kind", str "link") ∷ ("ports", arr (str "f" ∷ [])) ∷ []) ∷
-          obj (("name", str "k_fd") ∷ ("kind", str "fd") ∷ ("ports", arr (str "f" ∷ str "e" ∷ str "f" ∷ [])) ∷ []) ∷
-          obj (("name", str "k_rbcast") ∷ ("kind", str "rbcast") ∷ ("ports", arr (str "f" ∷ str "e" ∷ str "f" ∷ [])) ∷ []) ∷
-          obj (("name", str "k_cons") ∷ ("kind", str "cons") ∷ ("ports", arr (str "f" ∷ str "e" ∷ str "f" ∷ [])) ∷ []) ∷
-          obj (("name", str "k_abcast") ∷ ("kind", str "abcast") ∷ ("ports", arr (str "f" ∷ str "e" ∷ str "f" ∷ [])) ∷ []) ∷
-          obj (("name", str "k_seqcast") ∷ ("kind", str "seqcast") ∷ ("ports", arr (str "f" ∷ str "e" ∷ str "f" ∷ [])) ∷ []) ∷
-          obj (("name", str "k_repl") ∷ ("kind", str "repl") ∷ ("ports", arr (str "f" ∷ str "e" ∷ str "f" ∷ [])) ∷ []) ∷
-          obj (("name", str "k_views") ∷ ("kind", str "views") ∷ ("ports", arr (str "f" ∷ str "e" ∷ str "f" ∷ [])) ∷ []) ∷
-          []),
-    ) ∷ (
-      "decls",
-      arr (
-          obj (("name", str "s") ∷ ("form", str "set") ∷ ("micros", arr (str "l" ∷ str "a" ∷ [])) ∷ []) ∷
-          obj (("name", str "b") ∷ ("form", str "bound") ∷ ("budget", num 7) ∷ ("bounds", arr (obj (("micro", str "l") ∷ ("calls", num 1) ∷ []) ∷ obj (("micro", str "a") ∷ ("calls", num 3) ∷ []) ∷ [])) ∷ []) ∷
-          obj (("name", str "r") ∷ ("form", str "route") ∷ ("budget", num 256) ∷ ("roots", arr (str "a.h" ∷ str "l.recv" ∷ str "a.h" ∷ [])) ∷ ("edges", arr (arr (str "a.g" ∷ str "a.h" ∷ []) ∷ arr (str "a.g" ∷ str "k_cons.suspect" ∷ []) ∷ arr (str "a.g" ∷ str "a.h" ∷ []) ∷ [])) ∷ []) ∷
-          []),
-    ) ∷ (
-      "events",
-      arr (
-          obj (("name", str "e") ∷ ("decl", str "r") ∷ ("handlers", arr (str "a.g" ∷ str "k_abcast.decided" ∷ [])) ∷ []) ∷
-          obj (("name", str "f") ∷ ("decl", str "b") ∷ ("handlers", arr []) ∷ []) ∷
-          []),
-    ) ∷ (
-      "changes",
-      arr (
-          obj (("name", str "c") ∷ ("event", str "f") ∷ ("table", arr (obj (("event", str "e") ∷ ("handlers", arr (str "k_repl.switched" ∷ str "k_seqcast.recv" ∷ [])) ∷ []) ∷ [])) ∷ []) ∷
-          obj (("name", str "d") ∷ ("event", str "e") ∷ ("table", arr (obj (("event", str "f") ∷ ("handlers", arr []) ∷ []) ∷ obj (("event", str "e") ∷ ("handlers", arr (str "a.h" ∷ [])) ∷ []) ∷ [])) ∷ []) ∷
-          []),
-    ) ∷ (
-      "do",
-      arr (
-          obj (("tick", num 3) ∷ ("node", num 1) ∷ ("event", str "f") ∷ ("args", arr (num 1 ∷ num 2 ∷ [])) ∷ []) ∷
-          obj (("tick", num 1) ∷ ("node", num 0) ∷ ("change", str "d") ∷ []) ∷
-          []),
-    ) ∷ (
-      "lose",
-      arr (
-          obj (("from", num 0) ∷ ("to", num 1) ∷ ("first", num 2) ∷ ("last", num 18446744073709551615) ∷ []) ∷
-          []),
-    ) ∷ (
-      "crash",
-      arr (
-          obj (("node", num 1) ∷ ("tick", num 9) ∷ []) ∷
-          []),
-    ) ∷
-    [])
+everything = obj (("version", num 1) ∷ ("nodes", num 2) ∷ ("ticks", num 3) ∷ ("micros", arr everything_micros) ∷ ("decls", arr everything_decls) ∷ ("events", arr everything_events) ∷ ("changes", arr everything_changes) ∷ ("do", arr everything_do) ∷ ("lose", arr (obj (("from", num 0) ∷ ("to", num 1) ∷ ("first", num 2) ∷ ("last", num 18446744073709551615) ∷ []) ∷ [])) ∷ ("crash", arr (obj (("node", num 1) ∷ ("tick", num 9) ∷ []) ∷ [])) ∷ [])
 
 everything_meant : script_meant everything ≡ record {
   nodes = 2;
@@ -177,26 +163,7 @@ everything_meant = refl
 
 -- a script without the keys that may be left out
 abbrev fewest_keys : Data
-fewest_keys = obj (
-    ("version", num 1) ∷
-    ("nodes", num 1) ∷
-    ("ticks", num 1) ∷ (
-      "micros",
-      arr (
-          obj (("name", str "m") ∷ ("kind", str "prog") ∷ ("handlers", arr (obj (("name", str "h") ∷ ("code", arr []) ∷ []) ∷ [])) ∷ []) ∷
-          []),
-    ) ∷ (
-      "decls",
-      arr (
-          obj (("name", str "d") ∷ ("form", str "route") ∷ ("roots", arr (str "m.h" ∷ [])) ∷ []) ∷
-          []),
-    ) ∷ (
-      "events",
-      arr (
-          obj (("name", str "e") ∷ ("decl", str "d") ∷ ("handlers", arr (str "m.h" ∷ [])) ∷ []) ∷
-          []),
-    ) ∷
-    [])
+fewest_keys = obj (("version", num 1) ∷ ("nodes", num 1) ∷ ("ticks", num 1) ∷ ("micros", arr (obj (("name", str "m") ∷ ("kind", str "prog") ∷ ("handlers", arr (obj (("name", str "h") ∷ ("code", arr []) ∷ []) ∷ [])) ∷ []) ∷ [])) ∷ ("decls", arr (obj (("name", str "d") ∷ ("form", str "route") ∷ ("roots", arr (str "m.h" ∷ [])) ∷ []) ∷ [])) ∷ ("events", arr (obj (("name", str "e") ∷ ("decl", str "d") ∷ ("handlers", arr (str "m.h" ∷ [])) ∷ []) ∷ [])) ∷ [])
 
 fewest_keys_meant : script_meant fewest_keys ≡ record {
   nodes = 1;
