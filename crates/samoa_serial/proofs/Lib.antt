@@ -19,12 +19,15 @@ pub mod RangeLaws
 pub mod Reach
 pub mod RebindingLaws
 pub mod Refine
-mod ReferenceCons
-mod ReferenceKinds
-mod ReferenceMoments
+mod ReferenceConsensus
+mod ReferenceHandlers
+mod ReferenceOrdering
+mod ReferencePassing
+mod ReferenceReplacing
 mod ReferenceReport
 mod ReferenceRuns
 mod ReferenceTicks
+pub mod ReferenceWords
 pub mod ReportLaws
 pub mod RowLaws
 pub mod ScriptLaws
