@@ -77,10 +77,9 @@ def lemma(scenario):
             continue
         lines.append(held + row(*step))
         held = ""
-    name = scenario.name
-    return (f"-- {scenario.note}\nabbrev {name}_setup : Setup\n{name}_setup = {terms.setup(script, script.micros[0], scenario.node)}\n\n"
-            f"abbrev {name}_rows : List Row\n{name}_rows =\n{terms.rows(lines)}\n\n"
-            f"{name} : Gives kinds.{scenario.kind.capitalize()} {name}_setup {name}_rows\n{name} = refl\n")
+    kind = scenario.kind.capitalize()
+    setup = terms.setup(script, script.micros[0], scenario.node)
+    return (f"-- {scenario.note}\n{scenario.name} : Gives kinds.{kind} ({setup}) (\n{terms.rows(lines)})\n{scenario.name} = refl\n")
 
 
 HANDLER = "Rattle.samoa_model.specs.declared.handler"
@@ -95,8 +94,7 @@ IMPORTS = [
     (f"{SETUP}.Instr.TheVariants", "instr"),
     (f"{SETUP}.Kind.TheVariants", "kinds"),
     (f"{SETUP}.Place.TheVariants", ["Reg", "Local"]),
-    (f"{SETUP}.Setup", ["Setup"]),
-    ("Rattle.samoa_serial.proofs.ReferenceWords", ["event", "change", "node", "Row", "Gives"]),
+    ("Rattle.samoa_serial.proofs.ReferenceWords", ["event", "change", "node", "goes_on", "Gives"]),
 ]
 
 

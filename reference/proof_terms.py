@@ -6,7 +6,7 @@ import re
 
 import json_text
 
-LONG_RUN = 5
+LONG_RUN = 4
 REFUSED = {"-1": "number (negative (negsuc 0))", "null": "null", "true": "boolean true"}
 
 
@@ -211,11 +211,9 @@ def admission(own):
 
 def setup(script, micro, node):
     """What a microprotocol is set up with at a node."""
-    codes = block([f"({chain(map(instruction, code))})" for code in micro.code])
-    return record({
-        "node": f"node {node}", "nodes": script.nodes, "ports": events(micro.ports), "changes": changes(micro.changes),
-        "nums": words(micro.nums), "codes": codes,
-    })
+    codes = chain(argument(chain(map(instruction, code))) for code in micro.code)
+    return short_record(node=f"node {node}", nodes=script.nodes, ports=events(micro.ports), changes=changes(micro.changes),
+                        nums=words(micro.nums), codes=codes)
 
 
 def reply(value):
@@ -225,6 +223,8 @@ def reply(value):
 def moment(value):
     if value[0] == "begin":
         return f"Begin {value[1]} {argument(words(value[2]))}"
+    if value[3] == ("words", []):
+        return f"goes_on {value[1]} {argument(words(value[2]))}"
     return f"Resume {value[1]} {argument(words(value[2]))} ({reply(value[3])})"
 
 
@@ -281,14 +281,16 @@ def ending(value):
 # ---- files
 
 def imports(body, table):
-    """The `use` lines of those names of a table that a body has."""
+    """The `use` lines of those names of a table that a body has and doesn't define."""
+    defined = set(re.findall(r"^(?:abbrev )?(?:pub )?(\w+) :", body, re.MULTILINE))
+    bare = re.sub(r'"[^"]*"', '""', re.sub(r"^ *--.*$", "", body, flags=re.MULTILINE))
     lines = []
     for module, names in table:
         if isinstance(names, str):
-            if re.search(rf"(?<![\w.]){names}\.", body):
+            if re.search(rf"(?<![\w.]){names}\.", bare):
                 lines.append(f"use {module} as {names}")
             continue
-        used = [name for name in names if _stands_in(name, body)]
+        used = [name for name in names if name not in defined and _stands_in(name, bare)]
         if used:
             lines.append(f"use {module}.{{{', '.join(used)}}}")
     return lines
@@ -298,12 +300,10 @@ def _stands_in(name, body):
     if name == "[]":
         return "[]" in body
     if name.startswith("◌"):
-        return f" {name.strip('◌')} " in body
-    return re.search(rf"(?<![\w.]){re.escape(name)}(?![\w])(?! =)", body) is not None
+        return re.search(rf"\s{re.escape(name.strip('◌'))}\s", body) is not None
+    return re.search(rf"(?<![\w.]){re.escape(name)}(?!\w)(?! =)", body) is not None
 
 
 def file(head, body, table):
     """A proof file: what it shows, its imports and its body."""
-    bare = "\n".join(line for line in body.split("\n") if not line.lstrip().startswith("--"))
-    bare = re.sub(r'"[^"]*"', '""', bare)
-    return f"-- {head}\n" + "\n".join(imports(bare, table)) + "\n\n" + body.rstrip("\n") + "\n"
+    return f"-- {head}\n" + "\n".join(imports(body, table)) + "\n\n" + body.rstrip("\n") + "\n"

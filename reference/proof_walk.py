@@ -22,14 +22,10 @@ LOSS = {"from": 0, "to": 1, "first": 0, "last": 9}
 CRASH = {"node": 1, "tick": 2}
 PLAIN = {"version": 1, "nodes": 2, "ticks": 3, "micros": [PROG, LINK], "decls": [SET], "events": [EVENT], "changes": [CHANGE]}
 
-# Microprotocols that differ in their names.
-ALIKE = [{"name": f"k{number}", "kind": "link", "ports": ["e", "e", "e"]} for number in range(5)]
-
 PARTS = {
     "handler_h": CODE, "handler_g": CODE_G, "micro_a": PROG, "micro_l": LINK, "set_s": SET, "bound_of_a": BOUND_ITEM,
     "bound_b": BOUND, "route_r": ROUTE, "event_e": EVENT, "row_e": ROW, "change_c": CHANGE, "item_e": ITEM, "loss_of_all": LOSS,
-    "crash_of_1": CRASH, "plain": PLAIN,     **{own["name"]: own for own in ALIKE},
-}
+    "crash_of_1": CRASH, "plain": PLAIN, }
 
 OBJECTS = {
     "code": ("handlers", "code_fault", "handler"), "micro": ("micros", "micro_fault", "micro"),
@@ -64,6 +60,7 @@ IMPORTS = [
     ("Rattle.samoa_grammar.specs.Forms", ["form_of_all", "draft_of", *FAULTS, *DRAFTS]),
     ("Rattle.samoa_grammar.specs.Passes", PASSES),
     ("Rattle.samoa_grammar.specs.Meaning", ["script_of", *MEANT]),
+    ("Rattle.samoa_grammar.proofs.ReferenceParts", list(PARTS)),
     ("Rattle.samoa_grammar.proofs.ReferenceTrees",
      ["event", "change", "handler", "node", "str", "num", "arr", "obj", "but", "without", "times", "missing", "wrong", "unknown",
       "twice", "over", "Answers"]),
@@ -95,32 +92,32 @@ def object_fault(sort, value):
 
 
 def parts_of(names):
-    """The trees that stand before a table, and their names."""
+    """The trees that a table's trees are written by, and their names."""
     return {name: PARTS[name] for name in names}
 
 
-def definitions(names, known):
-    """Trees as definitions, each by those before it."""
+def parts_file():
+    known = {}
     out = []
-    for name in names:
-        out.append(f"abbrev {name} : Data\n{name} = {terms.tree(PARTS[name], known)}\n")
-        known = {**known, name: PARTS[name]}
-    return "\n".join(out)
+    for name, part in PARTS.items():
+        out.append(f"abbrev pub {name} : Data\n{name} = {terms.tree(part, known)}\n")
+        known[name] = part
+    head = "The parts of a small script, by which the trees of other files in this folder are written."
+    return terms.file(head, "\n".join(out), IMPORTS)
 
 
 def table(name, note, test, opened, values, parts):
-    """A table and its lemma: `values` has pairs of a tree and its fault, or a note in the place of a pair."""
+    """The lemma of a table: `values` has pairs of a tree and its fault, or a note in the place of a pair."""
     lines = []
-    held = []
+    held = ""
     for value in values:
         if isinstance(value, str):
-            held.append(f"-- {value}\n")
+            held = f"-- {value}\n"
             continue
         tree, line = value
-        lines.append("".join(held) + f"({terms.tree(tree, parts)}, {terms.fault(line)})")
-        held = []
-    return (f"-- {note}\nabbrev {name} : List (Data × Option WalkFault)\n{name} =\n{terms.rows(lines)}\n\n"
-            f"{name}_answered : Answers {terms.argument(test)} {name}\nunfolding {opened}\n{name}_answered = refl\n")
+        lines.append(f"{held}({terms.tree(tree, parts)}, {terms.fault(line)})")
+        held = ""
+    return (f"-- {note}\n{name} : Answers {terms.argument(test)} (\n{terms.rows(lines)})\nunfolding {opened}\n{name} = refl\n")
 
 
 def object_table(name, note, sort, values, parts):
@@ -242,29 +239,21 @@ LOSS_ROWS = [LOSS, *(without(LOSS, key) for key in LOSS), *({**LOSS, key: "1"} f
 CRASH_ROWS = [CRASH, *(without(CRASH, key) for key in CRASH), *({**CRASH, key: "1"} for key in CRASH), {**CRASH, "to": 0}]
 
 OBJECT_TABLES = [
-    ("handlers", "a handler of a microprotocol", "code", HANDLER_ROWS, ["handler_h"]),
-    ("microprotocols", "a microprotocol", "micro", MICRO_ROWS, ["handler_h", "handler_g", "micro_a", "micro_l"]),
-    ("bounds", "an item of bounds", "bound", BOUND_ROWS, ["bound_of_a"]),
-    ("declarations", "a declaration", "decl", DECL_ROWS, ["set_s", "bound_of_a", "bound_b", "route_r"]),
-    ("events", "an event", "event", EVENT_ROWS, ["event_e"]),
-    ("rows", "a row of a change's table", "table", TABLE_ROWS, ["row_e"]),
-    ("changes", "a change of bindings", "change", CHANGE_ROWS, ["row_e", "change_c"]),
-    ("items", "an item of do", "do", ITEM_ROWS, ["item_e"]),
-    ("losses", "a loss", "loss", LOSS_ROWS, ["loss_of_all"]),
-    ("crashes", "a crash", "crash", CRASH_ROWS, ["crash_of_1"]),
+    ("faults_of_handlers", "a handler of a microprotocol", "code", HANDLER_ROWS, ["handler_h"]),
+    ("faults_of_microprotocols", "a microprotocol", "micro", MICRO_ROWS, ["handler_h", "handler_g", "micro_a", "micro_l"]),
+    ("faults_of_bounds", "an item of bounds", "bound", BOUND_ROWS, ["bound_of_a"]),
+    ("faults_of_declarations", "a declaration", "decl", DECL_ROWS, ["set_s", "bound_of_a", "bound_b", "route_r"]),
+    ("faults_of_events", "an event", "event", EVENT_ROWS, ["event_e"]),
+    ("faults_of_rows", "a row of a change's table", "table", TABLE_ROWS, ["row_e"]),
+    ("faults_of_changes", "a change of bindings", "change", CHANGE_ROWS, ["row_e", "change_c"]),
+    ("faults_of_items", "an item of do", "do", ITEM_ROWS, ["item_e"]),
+    ("faults_of_losses", "a loss", "loss", LOSS_ROWS, ["loss_of_all"]),
+    ("faults_of_crashes", "a crash", "crash", CRASH_ROWS, ["crash_of_1"]),
 ]
 
 
 def tables(rows, maker):
-    """Tables, each after the trees that stand before it and that no table before has."""
-    known = {}
-    out = []
-    for *table, names in rows:
-        new = [name for name in names if name not in known]
-        out.append(definitions(new, known))
-        known = {**known, **parts_of(new)}
-        out.append(maker(*table, parts_of(names)))
-    return "\n".join(part for part in out if part)
+    return "\n".join(maker(*table, parts_of(names)) for *table, names in rows)
 
 
 def objects_file():
@@ -292,10 +281,11 @@ def instructions_file():
     for value in INSTRUCTIONS:
         read = f"Some ({terms.instruction(value)})" if script.is_instruction(value) else "None"
         lines.append(f"({terms.tree(value, {})}, {read})")
-    body = ("-- each instruction, and what is none\nabbrev instructions : List (Data × Option Instr)\ninstructions =\n"
-            f"{terms.rows(lines)}\n\n"
-            "instructions_read : map (λ row. instr_in row.0) instructions ≡ map (λ row. row.1) instructions\n"
-            "unfolding instr_in\ninstructions_read = refl\n")
+    body = ("-- each tree is read as what stands beside it\n"
+            "abbrev Reads : List (Data × Option Instr) → Type 0\n"
+            "Reads rows = map (λ row. instr_in row.0) rows ≡ map (λ row. row.1) rows\n\n"
+            f"instructions_and_what_is_none : Reads (\n{terms.rows(lines)})\n"
+            "unfolding instr_in\ninstructions_and_what_is_none = refl\n")
     head = "Instructions: trees, and beside each the instruction that the reference program reads in it, or none."
     return terms.file(head, body, IMPORTS)
 
@@ -363,18 +353,13 @@ def names_file():
 # ---- positions and totals
 
 def of_kind(kind, ports):
-    return {"name": "k", "kind": kind, "ports": ["e"] * ports}
+    return {**LINK, "kind": kind, "ports": ["e"] * ports}
 
 
 def several(kind, count):
-    """A script of eight nodes with so many microprotocols of a kind beside its own two."""
-    if kind == "prog":
-        return {**micros(PROG, LINK, *({**PROG, "name": f"a{number}"} for number in range(count))), "nodes": 8}
-    return {**micros(PROG, LINK, *({**own, "kind": kind} for own in ALIKE[:count])), "nodes": 8}
-
-
-def one_too_many(kind):
-    return several(kind, 4 if kind in ("prog", "link") else 5)
+    """A script of eight nodes with so many microprotocols of a kind. Their names are the same, which this pass doesn't test."""
+    own = PROG if kind == "prog" else of_kind(kind, script.LEAST_PORTS[kind])
+    return {**micros(*[own] * count), "nodes": 8}
 
 
 def in_code(*instruction):
@@ -396,24 +381,24 @@ NODE_ROWS = [
     {**PLAIN, "lose": [{**LOSS, "from": 2}]}, {**PLAIN, "lose": [{**LOSS, "to": 2}]}, {**PLAIN, "lose": [{**LOSS, "first": 10}]},
     {**PLAIN, "crash": [{**CRASH, "node": 2}]}, {**PLAIN, "crash": [{**CRASH, "tick": 99}]},
 ]
-KIND_ROWS = [*map(one_too_many, script.KINDS), several("prog", 3), several("link", 3), several("views", 4)]
+KIND_ROWS = [*(several(kind, 5) for kind in script.KINDS), several("prog", 4), several("views", 4)]
 ORDER_ROWS = [
     {**micros({**PROG, "handlers": [{**CODE, "code": [["call", 1, 1]]}]}, of_kind("fd", 1)), "nodes": 8},
     {**in_code("call", 1, 1), "do": [{**ITEM, "node": 2}]}, {**PLAIN, "do": [{**ITEM, "tick": 4}, {**ITEM, "node": 2}]},
     {**PLAIN, "do": [{**ITEM, "tick": 4}], "lose": [{**LOSS, "to": 2, "from": 2}], "crash": [{**CRASH, "node": 3}]},
-    {**PLAIN, "do": [{**ITEM, "tick": 4}], "crash": [{**CRASH, "node": 2}]}, {**one_too_many("fd"), "do": [{**ITEM, "tick": 4}]},
-    several("views", 5) | {"micros": [*several("views", 5)["micros"], *several("prog", 4)["micros"][2:]]},
+    {**PLAIN, "do": [{**ITEM, "tick": 4}], "crash": [{**CRASH, "node": 2}]}, {**several("fd", 5), "do": [{**ITEM, "tick": 4}]},
+    {**micros(*several("views", 5)["micros"], *several("prog", 5)["micros"]), "nodes": 8},
 ]
 
 
 def totals_file():
     head = "Positions and totals of a script: trees whose names are defined, and beside each the fault that the reference program finds then."
-    rows = [("ports", "the ports that each kind needs", 2, PORT_ROWS, SCRIPT_PARTS),
-            ("positions", "ports and changes that code speaks of", 2, POSITION_ROWS, SCRIPT_PARTS),
-            ("nodes_and_ticks", "nodes and ticks", 2, NODE_ROWS, ["item_e", "loss_of_all", "crash_of_1", *SCRIPT_PARTS]),
-            ("kinds_in_all", "nodes times the microprotocols of a kind", 2, KIND_ROWS, [*(own["name"] for own in ALIKE), *SCRIPT_PARTS]),
-            ("first_of_several", "faults of two groups of tests, of which the first group tells its own", 2, ORDER_ROWS,
-             ["item_e", "loss_of_all", "crash_of_1", *(own["name"] for own in ALIKE), *SCRIPT_PARTS])]
+    rows = [("ports_that_are_needed", "the ports that each kind needs", 2, PORT_ROWS, SCRIPT_PARTS),
+            ("positions_in_code", "ports and changes that code speaks of", 2, POSITION_ROWS, SCRIPT_PARTS),
+            ("nodes_and_ticks_in_range", "nodes and ticks", 2, NODE_ROWS, ["item_e", "loss_of_all", "crash_of_1", *SCRIPT_PARTS]),
+            ("microprotocols_in_all", "nodes times the microprotocols of a kind", 2, KIND_ROWS, SCRIPT_PARTS),
+            ("first_group_that_has_a_fault", "faults of two groups of tests, of which the first group tells its own", 2, ORDER_ROWS,
+             ["item_e", "loss_of_all", "crash_of_1", *SCRIPT_PARTS])]
     return terms.file(head, tables(rows, pass_table), IMPORTS)
 
 
@@ -459,8 +444,8 @@ def form_table(name, note, values, parts):
 def walk_file():
     head = "Whole scripts: trees, and beside each the fault that the reference program finds in the first pass and in all four."
     items = ["item_e", "loss_of_all", "crash_of_1", *SCRIPT_PARTS]
-    forms = tables([("keys", "the keys of a script", KEY_ROWS, items), ("lists", "its lists", LIST_ROWS, items)], form_table)
-    passes = whole_table("passes", "a fault of each pass: each goes over the whole tree before the next", PASS_ROWS, parts_of(items))
+    forms = tables([("keys_of_a_script", "the keys of a script", KEY_ROWS, items), ("lists_of_a_script", "its lists", LIST_ROWS, items)], form_table)
+    passes = whole_table("first_pass_that_has_a_fault", "a fault of each pass: each goes over the whole tree before the next", PASS_ROWS, parts_of(items))
     return terms.file(head, f"{forms}\n{passes}", IMPORTS)
 
 
@@ -521,6 +506,7 @@ def meaning_file():
 
 
 FILES = {
+    "ReferenceParts": parts_file,
     "ReferenceObjects": objects_file, "ReferenceInstructions": instructions_file, "ReferenceNames": names_file,
     "ReferenceTotals": totals_file, "ReferenceWalk": walk_file, "ReferenceMeaning": meaning_file,
 }

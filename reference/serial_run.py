@@ -153,14 +153,15 @@ def declaration_of(script, admission):
 
 
 def run_whole(script, boxes, table, admission):
-    """The entries and the ending of one computation; the boxes are those of its node, and are changed in place."""
+    """The entries, the ending and the number of handler steps of one computation; the boxes are those of its node, and are
+    changed in place."""
     whole = WholeEvent(boxes, declaration_of(script, admission), table)
     ending = whole.run_root(root_event(script, admission), admission.arguments)
     budget = whole.declaration.budget
     assert whole.steps <= 5 * budget + 4
     assert len(whole.handler_of) <= 4 * budget + 4
     assert len(whole.entries) <= 10 * budget + 10
-    return whole.entries, ending
+    return whole.entries, ending, whole.steps
 
 
 def first_table(script):
@@ -216,6 +217,7 @@ class Computation:
     admission: Admission
     entries: list
     ending: tuple
+    steps: int = None      # of handlers; counted in the serial run alone
 
 
 @dataclass
@@ -239,7 +241,7 @@ def history(script, limit=COMPUTATION_LIMIT) -> Run:
             node = admission.node
             if admission.cause[0] == "change":
                 tables[node] = changed_table(script, tables[node], admission.cause[1])
-            entries, ending = run_whole(script, boxes[node], tables[node], admission)
-            computations.append(Computation(admission, entries, ending))
+            entries, ending, steps = run_whole(script, boxes[node], tables[node], admission)
+            computations.append(Computation(admission, entries, ending, steps))
             batches.gather(node, tick, entries)
     return Run(computations, boxes, False)

@@ -7,6 +7,7 @@ mod ReferenceInstructions
 mod ReferenceMeaning
 mod ReferenceNames
 mod ReferenceObjects
+pub mod ReferenceParts
 mod ReferenceTotals
 pub mod ReferenceTrees
 mod ReferenceWalk

@@ -7,9 +7,11 @@ use Rattle.samoa_model.specs.declared.setup.Instr.TheVariants as instr
 use Rattle.samoa_grammar.specs.Instrs.{instr_in}
 use Rattle.samoa_grammar.proofs.ReferenceTrees.{str, num, arr, obj}
 
--- each instruction, and what is none
-abbrev instructions : List (Data × Option Instr)
-instructions =
+-- each tree is read as what stands beside it
+abbrev Reads : List (Data × Option Instr) → Type 0
+Reads rows = map (λ row. instr_in row.0) rows ≡ map (λ row. row.1) rows
+
+instructions_and_what_is_none : Reads (
     (arr (str "set" ∷ str "r0" ∷ num 7 ∷ []), Some (instr.Set (Reg 0) 7)) ∷
     (arr (str "set" ∷ str "x3" ∷ num 18446744073709551615 ∷ []), Some (instr.Set (Local 3) 18446744073709551615)) ∷
     (arr (str "set" ∷ str "r4" ∷ num 1 ∷ []), None) ∷
@@ -65,8 +67,6 @@ instructions =
     (str "done", None) ∷
     (arr (str "done" ∷ number (negative (negsuc 0)) ∷ []), None) ∷
     (arr (str "call" ∷ num 0 ∷ num 0 ∷ num 0 ∷ num 0 ∷ []), None) ∷
-    []
-
-instructions_read : map (λ row. instr_in row.0) instructions ≡ map (λ row. row.1) instructions
+    [])
 unfolding instr_in
-instructions_read = refl
+instructions_and_what_is_none = refl

@@ -1,54 +1,13 @@
 -- Names of a script: trees that are well formed, and beside each the fault that the reference program finds in its names.
-use Rattle.std.specs.Prelude.{List, [], ◌∷◌, Option, None, refl}
-use Rattle.serde_json.specs.Data.{Data}
-use Rattle.samoa_grammar.specs.declared.fault.WalkFault.{WalkFault}
+use Rattle.std.specs.Prelude.{[], ◌∷◌, None, refl}
 use Rattle.samoa_grammar.specs.Instrs.{instr_in}
 use Rattle.samoa_grammar.specs.Forms.{draft_of, micro_of, code_of, bound_of, decl_of, event_of, table_of, change_of, do_of, loss_of, crash_of}
 use Rattle.samoa_grammar.specs.Passes.{twice_fault, unknown_fault}
+use Rattle.samoa_grammar.proofs.ReferenceParts.{handler_h, handler_g, micro_a, micro_l, set_s, bound_of_a, bound_b, route_r, event_e, row_e, change_c, item_e, plain}
 use Rattle.samoa_grammar.proofs.ReferenceTrees.{str, num, arr, obj, but, without, unknown, twice, Answers}
 
-abbrev bound_of_a : Data
-bound_of_a = obj (("micro", str "a") ∷ ("calls", num 3) ∷ [])
-
-abbrev bound_b : Data
-bound_b = obj (("name", str "b") ∷ ("form", str "bound") ∷ ("bounds", arr (bound_of_a ∷ [])) ∷ [])
-
-abbrev route_r : Data
-route_r = obj (("name", str "r") ∷ ("form", str "route") ∷ ("roots", arr (str "a.h" ∷ [])) ∷ ("edges", arr (arr (str "a.h" ∷ str "a.g" ∷ []) ∷ [])) ∷ [])
-
-abbrev item_e : Data
-item_e = obj (("tick", num 1) ∷ ("node", num 0) ∷ ("event", str "e") ∷ [])
-
-abbrev handler_h : Data
-handler_h = obj (("name", str "h") ∷ ("code", arr []) ∷ [])
-
-abbrev handler_g : Data
-handler_g = but handler_h "name" (str "g")
-
-abbrev micro_a : Data
-micro_a = obj (("name", str "a") ∷ ("kind", str "prog") ∷ ("ports", arr (str "e" ∷ [])) ∷ ("changes", arr (str "c" ∷ [])) ∷ ("handlers", arr (handler_h ∷ handler_g ∷ [])) ∷ [])
-
-abbrev micro_l : Data
-micro_l = obj (("name", str "l") ∷ ("kind", str "link") ∷ ("ports", arr (str "e" ∷ [])) ∷ [])
-
-abbrev set_s : Data
-set_s = obj (("name", str "s") ∷ ("form", str "set") ∷ ("micros", arr (str "a" ∷ [])) ∷ [])
-
-abbrev event_e : Data
-event_e = obj (("name", str "e") ∷ ("decl", str "s") ∷ ("handlers", arr (str "a.h" ∷ [])) ∷ [])
-
-abbrev row_e : Data
-row_e = obj (("event", str "e") ∷ ("handlers", arr (str "a.g" ∷ [])) ∷ [])
-
-abbrev change_c : Data
-change_c = obj (("name", str "c") ∷ ("event", str "e") ∷ ("table", arr (row_e ∷ [])) ∷ [])
-
-abbrev plain : Data
-plain = obj (("version", num 1) ∷ ("nodes", num 2) ∷ ("ticks", num 3) ∷ ("micros", arr (micro_a ∷ micro_l ∷ [])) ∷ ("decls", arr (set_s ∷ [])) ∷ ("events", arr (event_e ∷ [])) ∷ ("changes", arr (change_c ∷ [])) ∷ [])
-
 -- names that stand twice
-abbrev repeated_names : List (Data × Option WalkFault)
-repeated_names =
+repeated_names : Answers (λ d. twice_fault (draft_of d)) (
     (plain, None) ∷
     (but plain "micros" (arr (micro_a ∷ micro_l ∷ micro_a ∷ [])), twice "a") ∷
     (but plain "micros" (arr (but micro_a "handlers" (arr (handler_h ∷ handler_g ∷ handler_h ∷ [])) ∷ micro_l ∷ [])), twice "h") ∷
@@ -74,15 +33,12 @@ repeated_names =
     (but (but plain "decls" (arr (set_s ∷ but (but set_s "name" (str "t")) "micros" (arr (str "l" ∷ str "l" ∷ [])) ∷ []))) "events" (arr (but event_e "handlers" (arr (str "a.h" ∷ str "a.h" ∷ [])) ∷ [])), twice "l") ∷
     (but (but plain "events" (arr (but event_e "handlers" (arr (str "a.h" ∷ str "a.h" ∷ [])) ∷ []))) "changes" (arr (but change_c "table" (arr (row_e ∷ row_e ∷ [])) ∷ [])), twice "a.h") ∷
     (but plain "changes" (arr (but change_c "table" (arr (but row_e "handlers" (arr (str "a.g" ∷ str "a.g" ∷ [])) ∷ [])) ∷ but (but change_c "name" (str "d")) "table" (arr (row_e ∷ row_e ∷ [])) ∷ [])), twice "e") ∷
-    []
-
-repeated_names_answered : Answers (λ d. twice_fault (draft_of d)) repeated_names
+    [])
 unfolding twice_fault draft_of micro_of code_of bound_of decl_of event_of table_of change_of do_of loss_of crash_of instr_in
-repeated_names_answered = refl
+repeated_names = refl
 
 -- names that aren't defined
-abbrev unknown_names : List (Data × Option WalkFault)
-unknown_names =
+unknown_names : Answers (λ d. unknown_fault (draft_of d)) (
     (but plain "micros" (arr (but micro_a "ports" (arr (str "e" ∷ str "f" ∷ [])) ∷ micro_l ∷ [])), unknown "f") ∷
     (but plain "micros" (arr (but micro_a "changes" (arr (str "c" ∷ str "d" ∷ [])) ∷ micro_l ∷ [])), unknown "d") ∷
     (but plain "decls" (arr (set_s ∷ but (but set_s "name" (str "t")) "micros" (arr (str "a" ∷ str "m" ∷ [])) ∷ [])), unknown "m") ∷
@@ -106,8 +62,6 @@ unknown_names =
     (but (but plain "decls" (arr (but set_s "micros" (arr (str "m" ∷ [])) ∷ []))) "events" (arr (but event_e "decl" (str "t") ∷ [])), unknown "m") ∷
     (but (but plain "events" (arr (but (but event_e "decl" (str "t")) "handlers" (arr (str "a.k" ∷ [])) ∷ []))) "changes" (arr (but change_c "event" (str "f") ∷ [])), unknown "t") ∷
     (but (but plain "changes" (arr (but change_c "event" (str "f") ∷ []))) "do" (arr (but item_e "event" (str "g") ∷ [])), unknown "f") ∷
-    []
-
-unknown_names_answered : Answers (λ d. unknown_fault (draft_of d)) unknown_names
+    [])
 unfolding unknown_fault draft_of micro_of code_of bound_of decl_of event_of table_of change_of do_of loss_of crash_of instr_in
-unknown_names_answered = refl
+unknown_names = refl

@@ -1,17 +1,13 @@
 -- The form of each object of a script: trees, and beside each the fault that the reference program finds in it.
-use Rattle.std.specs.Prelude.{negsuc, true, List, [], ◌∷◌, codes, Option, None, refl}
-use Rattle.serde_json.specs.Data.{Data, null, boolean, number, negative}
-use Rattle.samoa_grammar.specs.declared.fault.WalkFault.{WalkFault}
+use Rattle.std.specs.Prelude.{negsuc, true, [], ◌∷◌, codes, None, refl}
+use Rattle.serde_json.specs.Data.{null, boolean, number, negative}
 use Rattle.samoa_grammar.specs.Instrs.{instr_in}
 use Rattle.samoa_grammar.specs.Forms.{micro_fault, code_fault, bound_fault, decl_fault, event_fault, table_fault, change_fault, do_fault, loss_fault, crash_fault}
+use Rattle.samoa_grammar.proofs.ReferenceParts.{handler_h, micro_a, micro_l, set_s, bound_of_a, bound_b, route_r, event_e, row_e, change_c, item_e, loss_of_all, crash_of_1}
 use Rattle.samoa_grammar.proofs.ReferenceTrees.{str, num, arr, obj, but, without, times, missing, wrong, over, Answers}
 
-abbrev handler_h : Data
-handler_h = obj (("name", str "h") ∷ ("code", arr []) ∷ [])
-
 -- a handler of a microprotocol
-abbrev handlers : List (Data × Option WalkFault)
-handlers =
+faults_of_handlers : Answers (code_fault (codes "handlers")) (
     -- names have up to sixteen small letters, digits and _, and begin with a letter
     (but handler_h "name" (num 5), wrong "name") ∷
     (but handler_h "name" (str ""), wrong "name") ∷
@@ -35,24 +31,12 @@ handlers =
     (but handler_h "code" (arr (times 32 (arr (str "done" ∷ num 1 ∷ [])))), None) ∷
     (but handler_h "code" (arr (times 33 (arr (str "done" ∷ num 1 ∷ [])))), over "code" 32) ∷
     (but handler_h "code" (arr (times 33 (arr (str "done" ∷ num 5 ∷ [])))), wrong "code") ∷
-    []
-
-handlers_answered : Answers (code_fault (codes "handlers")) handlers
+    [])
 unfolding code_fault instr_in
-handlers_answered = refl
-
-abbrev handler_g : Data
-handler_g = but handler_h "name" (str "g")
-
-abbrev micro_a : Data
-micro_a = obj (("name", str "a") ∷ ("kind", str "prog") ∷ ("ports", arr (str "e" ∷ [])) ∷ ("changes", arr (str "c" ∷ [])) ∷ ("handlers", arr (handler_h ∷ handler_g ∷ [])) ∷ [])
-
-abbrev micro_l : Data
-micro_l = obj (("name", str "l") ∷ ("kind", str "link") ∷ ("ports", arr (str "e" ∷ [])) ∷ [])
+faults_of_handlers = refl
 
 -- a microprotocol
-abbrev microprotocols : List (Data × Option WalkFault)
-microprotocols =
+faults_of_microprotocols : Answers (micro_fault (codes "micros")) (
     (micro_l, None) ∷
     (micro_a, None) ∷
     (without micro_l "ports", None) ∷
@@ -99,18 +83,12 @@ microprotocols =
     (but (but (but micro_l "ports" (num 1)) "nums" (num 1)) "changes" (num 1), wrong "nums") ∷
     (but (but micro_l "ports" (num 1)) "changes" (num 1), wrong "ports") ∷
     (obj (("kind", num 1) ∷ ("name", num 1) ∷ []), wrong "name") ∷
-    []
-
-microprotocols_answered : Answers (micro_fault (codes "micros")) microprotocols
+    [])
 unfolding micro_fault code_fault instr_in
-microprotocols_answered = refl
-
-abbrev bound_of_a : Data
-bound_of_a = obj (("micro", str "a") ∷ ("calls", num 3) ∷ [])
+faults_of_microprotocols = refl
 
 -- an item of bounds
-abbrev bounds : List (Data × Option WalkFault)
-bounds =
+faults_of_bounds : Answers (bound_fault (codes "bounds")) (
     (bound_of_a, None) ∷
     (without bound_of_a "micro", missing "micro") ∷
     (but bound_of_a "micro" (num 1), wrong "micro") ∷
@@ -121,24 +99,12 @@ bounds =
     (but bound_of_a "calls" (num 257), over "calls" 256) ∷
     (but bound_of_a "calls" (boolean true), wrong "calls") ∷
     (but bound_of_a "budget" (num 1), wrong "bounds") ∷
-    []
-
-bounds_answered : Answers (bound_fault (codes "bounds")) bounds
+    [])
 unfolding bound_fault
-bounds_answered = refl
-
-abbrev set_s : Data
-set_s = obj (("name", str "s") ∷ ("form", str "set") ∷ ("micros", arr (str "a" ∷ [])) ∷ [])
-
-abbrev bound_b : Data
-bound_b = obj (("name", str "b") ∷ ("form", str "bound") ∷ ("bounds", arr (bound_of_a ∷ [])) ∷ [])
-
-abbrev route_r : Data
-route_r = obj (("name", str "r") ∷ ("form", str "route") ∷ ("roots", arr (str "a.h" ∷ [])) ∷ ("edges", arr (arr (str "a.h" ∷ str "a.g" ∷ []) ∷ [])) ∷ [])
+faults_of_bounds = refl
 
 -- a declaration
-abbrev declarations : List (Data × Option WalkFault)
-declarations =
+faults_of_declarations : Answers (decl_fault (codes "decls")) (
     (set_s, None) ∷
     (bound_b, None) ∷
     (route_r, None) ∷
@@ -190,18 +156,12 @@ declarations =
     (but route_r "edges" (arr (arr (str "a.h" ∷ str "g" ∷ []) ∷ [])), wrong "edges") ∷
     (but route_r "edges" (arr (arr (str "h" ∷ str "a.g" ∷ []) ∷ [])), wrong "edges") ∷
     (but route_r "edges" (obj []), wrong "edges") ∷
-    []
-
-declarations_answered : Answers (decl_fault (codes "decls")) declarations
+    [])
 unfolding decl_fault bound_fault
-declarations_answered = refl
-
-abbrev event_e : Data
-event_e = obj (("name", str "e") ∷ ("decl", str "s") ∷ ("handlers", arr (str "a.h" ∷ [])) ∷ [])
+faults_of_declarations = refl
 
 -- an event
-abbrev events : List (Data × Option WalkFault)
-events =
+faults_of_events : Answers (event_fault (codes "events")) (
     (event_e, None) ∷
     (but event_e "handlers" (arr []), None) ∷
     (without event_e "name", missing "name") ∷
@@ -209,42 +169,30 @@ events =
     (without event_e "decl", missing "decl") ∷
     (but event_e "decl" (arr []), wrong "decl") ∷
     (without event_e "handlers", missing "handlers") ∷
-    (but event_e "handlers" (arr (str "a.h" ∷ str "a.h" ∷ str "a.h" ∷ str "a.h" ∷ [])), None) ∷
+    (but event_e "handlers" (arr (times 4 (str "a.h"))), None) ∷
     (but event_e "handlers" (arr (times 5 (str "a.h"))), over "handlers" 4) ∷
     (but event_e "handlers" (arr (str "a" ∷ [])), wrong "handlers") ∷
     (but event_e "event" (str "e"), wrong "events") ∷
-    []
-
-events_answered : Answers (event_fault (codes "events")) events
+    [])
 unfolding event_fault
-events_answered = refl
-
-abbrev row_e : Data
-row_e = obj (("event", str "e") ∷ ("handlers", arr (str "a.g" ∷ [])) ∷ [])
+faults_of_events = refl
 
 -- a row of a change's table
-abbrev rows : List (Data × Option WalkFault)
-rows =
+faults_of_rows : Answers (table_fault (codes "table")) (
     (row_e, None) ∷
     (without row_e "event", missing "event") ∷
     (but row_e "event" (num 1), wrong "event") ∷
     (without row_e "handlers", missing "handlers") ∷
-    (but row_e "handlers" (arr (str "a.h" ∷ str "a.h" ∷ str "a.h" ∷ str "a.h" ∷ [])), None) ∷
+    (but row_e "handlers" (arr (times 4 (str "a.h"))), None) ∷
     (but row_e "handlers" (arr (times 5 (str "a.h"))), over "handlers" 4) ∷
     (but row_e "handlers" (arr (str "h" ∷ [])), wrong "handlers") ∷
     (but row_e "name" (str "e"), wrong "table") ∷
-    []
-
-rows_answered : Answers (table_fault (codes "table")) rows
+    [])
 unfolding table_fault
-rows_answered = refl
-
-abbrev change_c : Data
-change_c = obj (("name", str "c") ∷ ("event", str "e") ∷ ("table", arr (row_e ∷ [])) ∷ [])
+faults_of_rows = refl
 
 -- a change of bindings
-abbrev changes : List (Data × Option WalkFault)
-changes =
+faults_of_changes : Answers (change_fault (codes "changes")) (
     (change_c, None) ∷
     (without change_c "name", missing "name") ∷
     (but change_c "name" (num 1), wrong "name") ∷
@@ -257,18 +205,12 @@ changes =
     (but change_c "table" (arr (num 1 ∷ [])), wrong "table") ∷
     (but change_c "table" (arr (row_e ∷ without row_e "event" ∷ [])), missing "event") ∷
     (but change_c "handlers" (arr []), wrong "changes") ∷
-    []
-
-changes_answered : Answers (change_fault (codes "changes")) changes
+    [])
 unfolding change_fault table_fault
-changes_answered = refl
-
-abbrev item_e : Data
-item_e = obj (("tick", num 1) ∷ ("node", num 0) ∷ ("event", str "e") ∷ [])
+faults_of_changes = refl
 
 -- an item of do
-abbrev items : List (Data × Option WalkFault)
-items =
+faults_of_items : Answers (do_fault (codes "do")) (
     (item_e, None) ∷
     (but (without item_e "event") "change" (str "c"), None) ∷
     -- one of event and change
@@ -288,18 +230,12 @@ items =
     (but item_e "args" (arr (times 13 (num 1))), over "args" 12) ∷
     (but item_e "args" (arr (str "1" ∷ [])), wrong "args") ∷
     (but item_e "arg" (num 1), wrong "do") ∷
-    []
-
-items_answered : Answers (do_fault (codes "do")) items
+    [])
 unfolding do_fault
-items_answered = refl
-
-abbrev loss_of_all : Data
-loss_of_all = obj (("from", num 0) ∷ ("to", num 1) ∷ ("first", num 0) ∷ ("last", num 9) ∷ [])
+faults_of_items = refl
 
 -- a loss
-abbrev losses : List (Data × Option WalkFault)
-losses =
+faults_of_losses : Answers (loss_fault (codes "lose")) (
     (loss_of_all, None) ∷
     (without loss_of_all "from", missing "from") ∷
     (without loss_of_all "to", missing "to") ∷
@@ -310,26 +246,18 @@ losses =
     (but loss_of_all "first" (str "1"), wrong "first") ∷
     (but loss_of_all "last" (str "1"), wrong "last") ∷
     (but loss_of_all "node" (num 0), wrong "lose") ∷
-    []
-
-losses_answered : Answers (loss_fault (codes "lose")) losses
+    [])
 unfolding loss_fault
-losses_answered = refl
-
-abbrev crash_of_1 : Data
-crash_of_1 = obj (("node", num 1) ∷ ("tick", num 2) ∷ [])
+faults_of_losses = refl
 
 -- a crash
-abbrev crashes : List (Data × Option WalkFault)
-crashes =
+faults_of_crashes : Answers (crash_fault (codes "crash")) (
     (crash_of_1, None) ∷
     (without crash_of_1 "node", missing "node") ∷
     (without crash_of_1 "tick", missing "tick") ∷
     (but crash_of_1 "node" (str "1"), wrong "node") ∷
     (but crash_of_1 "tick" (str "1"), wrong "tick") ∷
     (but crash_of_1 "to" (num 0), wrong "crash") ∷
-    []
-
-crashes_answered : Answers (crash_fault (codes "crash")) crashes
+    [])
 unfolding crash_fault
-crashes_answered = refl
+faults_of_crashes = refl

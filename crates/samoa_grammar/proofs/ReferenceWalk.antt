@@ -1,52 +1,14 @@
 -- Whole scripts: trees, and beside each the fault that the reference program finds in the first pass and in all four.
-use Rattle.std.specs.Prelude.{List, [], ◌∷◌, Option, None, refl}
-use Rattle.serde_json.specs.Data.{Data}
-use Rattle.samoa_grammar.specs.declared.fault.WalkFault.{WalkFault}
+use Rattle.std.specs.Prelude.{[], ◌∷◌, None, refl}
 use Rattle.samoa_grammar.specs.Held.{walk_fault}
 use Rattle.samoa_grammar.specs.Instrs.{instr_in}
 use Rattle.samoa_grammar.specs.Forms.{form_of_all, draft_of, micro_fault, code_fault, bound_fault, decl_fault, event_fault, table_fault, change_fault, do_fault, loss_fault, crash_fault, micro_of, code_of, bound_of, decl_of, event_of, table_of, change_of, do_of, loss_of, crash_of}
 use Rattle.samoa_grammar.specs.Passes.{twice_fault, unknown_fault, totals_fault}
+use Rattle.samoa_grammar.proofs.ReferenceParts.{micro_l, set_s, event_e, change_c, item_e, loss_of_all, crash_of_1, plain}
 use Rattle.samoa_grammar.proofs.ReferenceTrees.{str, num, arr, obj, but, without, times, missing, wrong, unknown, twice, over, Answers}
 
-abbrev item_e : Data
-item_e = obj (("tick", num 1) ∷ ("node", num 0) ∷ ("event", str "e") ∷ [])
-
-abbrev loss_of_all : Data
-loss_of_all = obj (("from", num 0) ∷ ("to", num 1) ∷ ("first", num 0) ∷ ("last", num 9) ∷ [])
-
-abbrev crash_of_1 : Data
-crash_of_1 = obj (("node", num 1) ∷ ("tick", num 2) ∷ [])
-
-abbrev handler_h : Data
-handler_h = obj (("name", str "h") ∷ ("code", arr []) ∷ [])
-
-abbrev handler_g : Data
-handler_g = but handler_h "name" (str "g")
-
-abbrev micro_a : Data
-micro_a = obj (("name", str "a") ∷ ("kind", str "prog") ∷ ("ports", arr (str "e" ∷ [])) ∷ ("changes", arr (str "c" ∷ [])) ∷ ("handlers", arr (handler_h ∷ handler_g ∷ [])) ∷ [])
-
-abbrev micro_l : Data
-micro_l = obj (("name", str "l") ∷ ("kind", str "link") ∷ ("ports", arr (str "e" ∷ [])) ∷ [])
-
-abbrev set_s : Data
-set_s = obj (("name", str "s") ∷ ("form", str "set") ∷ ("micros", arr (str "a" ∷ [])) ∷ [])
-
-abbrev event_e : Data
-event_e = obj (("name", str "e") ∷ ("decl", str "s") ∷ ("handlers", arr (str "a.h" ∷ [])) ∷ [])
-
-abbrev row_e : Data
-row_e = obj (("event", str "e") ∷ ("handlers", arr (str "a.g" ∷ [])) ∷ [])
-
-abbrev change_c : Data
-change_c = obj (("name", str "c") ∷ ("event", str "e") ∷ ("table", arr (row_e ∷ [])) ∷ [])
-
-abbrev plain : Data
-plain = obj (("version", num 1) ∷ ("nodes", num 2) ∷ ("ticks", num 3) ∷ ("micros", arr (micro_a ∷ micro_l ∷ [])) ∷ ("decls", arr (set_s ∷ [])) ∷ ("events", arr (event_e ∷ [])) ∷ ("changes", arr (change_c ∷ [])) ∷ [])
-
 -- the keys of a script
-abbrev keys : List (Data × Option WalkFault)
-keys =
+keys_of_a_script : Answers form_of_all (
     (plain, None) ∷
     (without plain "changes", None) ∷
     (arr (plain ∷ []), wrong "script") ∷
@@ -78,15 +40,12 @@ keys =
     (but (but (but plain "do" (num 0)) "lose" (num 0)) "crash" (num 0), wrong "do") ∷
     (but (but plain "lose" (num 0)) "crash" (num 0), wrong "lose") ∷
     (but plain "crash" (num 0), wrong "crash") ∷
-    []
-
-keys_answered : Answers form_of_all keys
+    [])
 unfolding form_of_all micro_fault code_fault bound_fault decl_fault event_fault table_fault change_fault do_fault loss_fault crash_fault instr_in
-keys_answered = refl
+keys_of_a_script = refl
 
 -- its lists
-abbrev lists : List (Data × Option WalkFault)
-lists =
+lists_of_a_script : Answers form_of_all (
     (but plain "micros" (obj []), wrong "micros") ∷
     (but plain "micros" (arr []), wrong "micros") ∷
     (but plain "micros" (arr (micro_l ∷ num 1 ∷ [])), wrong "micros") ∷
@@ -121,22 +80,17 @@ lists =
     (but plain "crash" (arr (crash_of_1 ∷ num 1 ∷ [])), wrong "crash") ∷
     (but plain "crash" (arr (times 8 crash_of_1)), None) ∷
     (but plain "crash" (arr (times 9 crash_of_1)), over "crash" 8) ∷
-    []
-
-lists_answered : Answers form_of_all lists
+    [])
 unfolding form_of_all micro_fault code_fault bound_fault decl_fault event_fault table_fault change_fault do_fault loss_fault crash_fault instr_in
-lists_answered = refl
+lists_of_a_script = refl
 
 -- a fault of each pass: each goes over the whole tree before the next
-abbrev passes : List (Data × Option WalkFault)
-passes =
+first_pass_that_has_a_fault : Answers walk_fault (
     (but (but (but (but plain "decls" (arr (but set_s "micros" (arr (str "m" ∷ [])) ∷ []))) "events" (arr (event_e ∷ event_e ∷ []))) "crash" (arr (but crash_of_1 "node" (num 2) ∷ []))) "lose" (arr (num 1 ∷ [])), wrong "lose") ∷
     (but (but (but plain "decls" (arr (but set_s "micros" (arr (str "m" ∷ [])) ∷ []))) "events" (arr (event_e ∷ event_e ∷ []))) "crash" (arr (but crash_of_1 "node" (num 2) ∷ [])), twice "e") ∷
     (but (but plain "decls" (arr (but set_s "micros" (arr (str "m" ∷ [])) ∷ []))) "crash" (arr (but crash_of_1 "node" (num 2) ∷ [])), unknown "m") ∷
     (but plain "crash" (arr (but crash_of_1 "node" (num 2) ∷ [])), over "node" 1) ∷
     (but (but (but plain "do" (arr (item_e ∷ []))) "lose" (arr (loss_of_all ∷ []))) "crash" (arr (crash_of_1 ∷ [])), None) ∷
-    []
-
-passes_answered : Answers walk_fault passes
+    [])
 unfolding walk_fault form_of_all draft_of twice_fault unknown_fault totals_fault micro_fault code_fault bound_fault decl_fault event_fault table_fault change_fault do_fault loss_fault crash_fault micro_of code_of bound_of decl_of event_of table_of change_of do_of loss_of crash_of instr_in
-passes_answered = refl
+first_pass_that_has_a_fault = refl

@@ -26,6 +26,7 @@ mod ReferencePassing
 mod ReferenceReplacing
 mod ReferenceReport
 mod ReferenceRuns
+pub mod ReferenceScripts
 mod ReferenceTicks
 pub mod ReferenceWords
 pub mod ReportLaws

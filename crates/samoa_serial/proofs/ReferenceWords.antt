@@ -7,6 +7,8 @@ use Rattle.samoa_model.specs.declared.ids.HandlerId.{HandlerId}
 use Rattle.samoa_model.specs.declared.ids.MicroId.{MicroId}
 use Rattle.samoa_model.specs.declared.ids.NodeId.{NodeId}
 use Rattle.samoa_model.specs.declared.handler.Moment.{Moment}
+use Rattle.samoa_model.specs.declared.handler.Moment.TheVariants.{Resume}
+use Rattle.samoa_model.specs.declared.handler.Reply.TheVariants.{Words}
 use Rattle.samoa_model.specs.declared.handler.Outcome.{Outcome}
 use Rattle.samoa_model.specs.declared.setup.Kind.{Kind}
 use Rattle.samoa_model.specs.declared.setup.Setup.{Setup}
@@ -31,6 +33,10 @@ abbrev pub node : ℕ → NodeId
 node n = record { 0 = n }
 
 -- ---- moments
+
+-- a handler goes on with a frame and the empty reply
+abbrev pub goes_on : ℕ → List ℕ → Moment
+goes_on handler frame = Resume handler frame (Words [])
 
 -- a moment, what it gives, and what is shown after it
 abbrev pub Row : Type 0
