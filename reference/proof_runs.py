@@ -133,10 +133,14 @@ def scripts_file():
 
 # ---- computations entry by entry
 
-def seen(computation):
-    """A computation's entries, its ending and how many handler steps it made, in lines."""
+def seen(script, computation):
+    """A computation's entries, its ending and how many handler steps it made, in lines after one that tells what began it."""
     entries = terms.rows(map(terms.entry, computation.entries), 6).lstrip()
-    return f"(\n  {entries},\n  {terms.ending(computation.ending)},\n  {computation.steps},\n)"
+    admission = computation.admission
+    what, number = admission.cause
+    name = (script.events if what == "event" else script.changes)[number].name
+    return (f"(\n  -- {name}, at node {admission.node}\n  {entries},\n  {terms.ending(computation.ending)},\n"
+            f"  {computation.steps},\n)")
 
 
 def tables(script, run):
@@ -154,7 +158,7 @@ def runs_file():
     run = history(script)
     assert len(run.computations) == len(script.items)
     opened = f"unfolding {' '.join(HISTORY)}"
-    comps = " ∷ ".join(map(seen, run.computations))
+    comps = " ∷ ".join(seen(script, own) for own in run.computations)
     parts = [
         "-- what is seen of a computation: its entries, its ending, and how many handler steps it made\n"
         "abbrev seen : Ran → List Entry × Ending × ℕ\nseen ran = (ran.world.entries, ran.value, length ran.world.turns)\n",
@@ -247,3 +251,40 @@ def ticks_file():
 
 
 FILES = {"ReferenceScripts": scripts_file, "ReferenceRuns": runs_file, "ReferenceReport": report_file, "ReferenceTicks": ticks_file}
+
+
+# ---- the group stack, whose parts samoa_laws has
+
+GROUP_IMPORTS = [
+    ("Rattle.std.specs.Prelude", ["◌≡◌", "false", "[]", "◌∷◌", "◌++◌", "refl", "codes"]),
+    ("Rattle.std.specs.Fmt", ["digits"]),
+    (f"{RECORD}.Cause", ["Cause"]),
+    ("Rattle.samoa_model.specs.declared.script.Script", ["Script"]),
+    (f"{SERIAL}.Lines", LINES),
+    (f"{SERIAL}.History", ["batch"]),
+    (f"{SERIAL}.Batch", ["batch_after"]),
+    (f"{SERIAL}.Ticks", TICKS),
+    (f"{SERIAL}.Report", COMPUTATIONS),
+    (f"{SERIAL}.LimitedReport", LIMITED),
+    ("Rattle.samoa_laws.specs.trace.Group", ["event", "group_changes", "group_decls", "group_events", "group_micros"]),
+]
+
+
+def group_file():
+    script = script_of(samples.group("cast 0 7", ticks=5))
+    [item] = script.items
+    fields = {"nodes": script.nodes, "ticks": script.ticks}
+    fields |= {key: f"group_{key}" for key in ("micros", "decls", "events", "changes")}
+    fields["does"] = terms.chain([terms.short_record(
+        tick=item.tick, node=f"record {{ 0 = {item.node} }}", cause=f"Cause.Event (event {item.cause[1]})",
+        args=terms.words(item.arguments))])
+    fields |= {"losses": "[]", "crashes": "[]"}
+    text = "\n    ++ ".join(f'codes "{line}\\n"' for line in report(script, history(script), False).splitlines())
+    opened = ["digits", "report_to", "comps_text", "comp_text", "states_text", "node_text", "history_within", "is_limited_to",
+              "is_limited_by", "admitted_to", "admitted_by", "batch_after", "batch", "limit_text", *LINES]
+    body = (f"abbrev one_cast : Script\none_cast = {terms.record(fields)}\n\n"
+            f"one_cast_reported : report_in_full one_cast false ≡\n    {text}\nunfolding {' '.join(opened)}\n"
+            "one_cast_reported = refl\n")
+    head = ("The report of a script of the group stack, run by the prover: a broadcast of one node. The expected values come from an "
+            "independent program.")
+    return terms.file(head, body, GROUP_IMPORTS)
