@@ -19,13 +19,14 @@ _CODE_OF_A = {
     "send": [["send", "x0", 1, 2]],
     "flood": [["set", "x1", 9], ["send", "x1", 5, 0]],
     "ask": [["change", 0, 1], ["send", "x0", 4, 1], ["change", 1, 2]],
+    "loop_later": [["later", 3, 1], ["later", 1, 1]],
 }
 _EVENTS = [
-    ("b_add", "all", "b.add"), ("add", "only_a", "a.add"), ("tell", "all", "c.tell"), ("loop", "two_units", "a.loop"),
+    ("b_add", "all", "b.add"), ("add", "only_a", "a.add"), ("tell", "all", "c.tell"), ("loop", "two_units", "a.loop a.add"),
     ("moving", "all", "b.add"), ("flood", "only_a", "a.flood"), ("ask_b", "all", "a.ask_b"), ("alone", "only_a", "a.ask_b"),
     ("outside", "only_a", "a.add c.tell"), ("unbound", "only_a", ""), ("thrice", "twice_b", "a.thrice"), ("along", "route", "a.later"),
     ("astray", "route", "a.ask_b"), ("later", "all", "a.later"), ("three", "all", "a.add b.add c.tell"), ("send", "only_a", "a.send"),
-    ("ask", "only_a", "a.ask"),
+    ("ask", "only_a", "a.ask"), ("loop_later", "two_units", "a.loop_later"),
 ]
 
 
@@ -118,7 +119,7 @@ COMPUTATIONS_NOTE = ("calls one within another, several at once and later ones; 
                      "for, and one that is made")
 # What is sent and asked for comes to nobody, since no tick follows: what the script admits is its own items.
 COMPUTATIONS_SCRIPT = stack(
-    "tell 5; ask_b 3; @1 alone 3; outside 1; unbound; loop 1; thrice 1; along 2; astray 2; three 4; later 6; %2 moving 1;"
+    "tell 5; ask_b 3; @1 alone 3; outside 1; unbound; loop 1; loop_later 1; thrice 1; along 2; astray 2; three 4; later 6; %2 moving 1;"
     "%2 change to_c 3; %2 moving 2; %2 @1 moving 4; %2 later 1; %2 @1 send 0 9; %2 send 7 8; %2 ask 1 2", nodes=2, ticks=2)
 
 

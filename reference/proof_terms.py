@@ -54,9 +54,12 @@ def tree(value, parts):
 
 
 def _object(value, parts):
-    whole = chain(f"({text(key)}, {tree(own, parts)})" for key, own in value.items())
-    changed = [_changed(value, name, parts) for name, part in parts.items() if isinstance(part, dict)]
-    return min([f"obj {argument(whole)}", *changed], key=len)
+    whole = f"obj {argument(chain(f'({text(key)}, {tree(own, parts)})' for key, own in value.items()))}"
+    named = [name for name, part in parts.items() if isinstance(part, dict)]
+    if not named:
+        return whole
+    nearest = min(named, key=lambda name: sum(value.get(key) != parts[name].get(key) for key in {**value, **parts[name]}))
+    return min(whole, _changed(value, nearest, parts), key=len)
 
 
 def _items(value, parts):

@@ -32,6 +32,7 @@ stack = record {
             record { name = codes "send"; code = instr.Send (Local 0) 1 2 ∷ [] } ∷
             record { name = codes "flood"; code = instr.Set (Local 1) 9 ∷ instr.Send (Local 1) 5 0 ∷ [] } ∷
             record { name = codes "ask"; code = instr.Change 0 1 ∷ instr.Send (Local 0) 4 1 ∷ instr.Change 1 2 ∷ [] } ∷
+            record { name = codes "loop_later"; code = instr.Later 3 1 ∷ instr.Later 1 1 ∷ [] } ∷
             [];
       } ∷
       record {
@@ -66,7 +67,7 @@ stack = record {
       record { name = codes "b_add"; decl = 1; handlers = handler 1 0 ∷ [] } ∷
       record { name = codes "add"; decl = 0; handlers = handler 0 0 ∷ [] } ∷
       record { name = codes "tell"; decl = 1; handlers = handler 2 0 ∷ [] } ∷
-      record { name = codes "loop"; decl = 2; handlers = handler 0 2 ∷ [] } ∷
+      record { name = codes "loop"; decl = 2; handlers = handler 0 2 ∷ handler 0 0 ∷ [] } ∷
       record { name = codes "moving"; decl = 1; handlers = handler 1 0 ∷ [] } ∷
       record { name = codes "flood"; decl = 0; handlers = handler 0 6 ∷ [] } ∷
       record { name = codes "ask_b"; decl = 1; handlers = handler 0 1 ∷ [] } ∷
@@ -80,6 +81,7 @@ stack = record {
       record { name = codes "three"; decl = 1; handlers = handler 0 0 ∷ handler 1 0 ∷ handler 2 0 ∷ [] } ∷
       record { name = codes "send"; decl = 0; handlers = handler 0 5 ∷ [] } ∷
       record { name = codes "ask"; decl = 0; handlers = handler 0 7 ∷ [] } ∷
+      record { name = codes "loop_later"; decl = 2; handlers = handler 0 8 ∷ [] } ∷
       [];
   changes =
       record { name = codes "to_c"; event = event 1; table = record { event = event 4; handlers = handler 2 0 ∷ [] } ∷ [] } ∷
@@ -99,6 +101,7 @@ computations = record stack {
       record { tick = 1; node = node 0; cause = causes.Event (event 8); args = 1 ∷ [] } ∷
       record { tick = 1; node = node 0; cause = causes.Event (event 9); args = [] } ∷
       record { tick = 1; node = node 0; cause = causes.Event (event 3); args = 1 ∷ [] } ∷
+      record { tick = 1; node = node 0; cause = causes.Event (event 17); args = 1 ∷ [] } ∷
       record { tick = 1; node = node 0; cause = causes.Event (event 10); args = 1 ∷ [] } ∷
       record { tick = 1; node = node 0; cause = causes.Event (event 11); args = 2 ∷ [] } ∷
       record { tick = 1; node = node 0; cause = causes.Event (event 12); args = 2 ∷ [] } ∷
