@@ -10,6 +10,7 @@ from script import read_script
 from serial_run import COMPUTATION_LIMIT, changed_table, first_table, history
 
 _ADD = [["add", "r0", "x0"], ["copy", "x0", "r0"], ["done", 1]]
+_TELL = [["add", "r0", "x0"], ["deliver", 1], ["done", 1]]
 _CODE_OF_A = {
     "add": _ADD,
     "ask_b": [["call", 0, 1], ["deliver", 2], ["done", 1]],
@@ -24,8 +25,10 @@ _CODE_OF_A = {
 _EVENTS = [
     ("b_add", "all", "b.add"), ("add", "only_a", "a.add"), ("tell", "all", "c.tell"), ("loop", "two_units", "a.loop a.add"),
     ("moving", "all", "b.add"), ("flood", "only_a", "a.flood"), ("ask_b", "all", "a.ask_b"), ("alone", "only_a", "a.ask_b"),
-    ("outside", "only_a", "a.add c.tell"), ("unbound", "only_a", ""), ("thrice", "twice_b", "a.thrice"), ("along", "route", "a.later"),
-    ("astray", "route", "a.ask_b"), ("later", "all", "a.later"), ("three", "all", "a.add b.add c.tell"), ("send", "only_a", "a.send"),
+    ("outside", "only_a", "a.add c.tell"), ("unbound", "only_a", ""), ("thrice", "twice_b", "a.thrice"),
+    ("along", "route", "a.later"),
+    ("astray", "route", "a.ask_b"), ("later", "all", "a.later"), ("three", "all", "a.add b.add c.tell"),
+    ("send", "only_a", "a.send"),
     ("ask", "only_a", "a.ask"), ("loop_later", "two_units", "a.loop_later"),
 ]
 
@@ -41,10 +44,10 @@ def stack(do="", nodes=1, ticks=1, **more):
     return {
         "version": 1, "nodes": nodes, "ticks": ticks,
         "micros": [
-            {"name": "a", "kind": "prog", "ports": ["b_add", "add", "tell", "loop", "moving", "flood"], "changes": ["to_c", "to_both"],
-             "handlers": handlers(_CODE_OF_A)},
+            {"name": "a", "kind": "prog", "ports": ["b_add", "add", "tell", "loop", "moving", "flood"],
+             "changes": ["to_c", "to_both"], "handlers": handlers(_CODE_OF_A)},
             {"name": "b", "kind": "prog", "nums": [100], "handlers": handlers({"add": _ADD})},
-            {"name": "c", "kind": "prog", "handlers": handlers({"tell": [["add", "r0", "x0"], ["deliver", 1], ["done", 1]]})},
+            {"name": "c", "kind": "prog", "handlers": handlers({"tell": _TELL})},
         ],
         "decls": [
             {"name": "only_a", "form": "set", "micros": ["a"]}, {"name": "all", "form": "set", "micros": ["a", "b", "c"]},
@@ -65,8 +68,8 @@ def script_of(tree):
 HANDLER = "Rattle.samoa_model.specs.declared.handler"
 RECORD = "Rattle.samoa_model.specs.declared.record"
 SERIAL = "Rattle.samoa_serial.specs"
-LINES = ("ext_text", "accepted_text", "finished_text", "refusal_line", "waiting_text", "sent_text", "delivered_text", "asked_text",
-         "end_text", "state_text", "total_text")
+LINES = ("ext_text", "accepted_text", "finished_text", "refusal_line", "waiting_text", "sent_text", "delivered_text",
+         "asked_text", "end_text", "state_text", "total_text")
 COMPUTATIONS = ("comp_text", "comps_text", "node_text", "states_text")
 HISTORY = ("history", "history_to", "batch")
 TICKS = ("history_within", "is_limited_by", "is_limited_to", "admitted_by", "admitted_to")
@@ -115,12 +118,13 @@ def happening(name, note, script):
     return f"-- {note}\nabbrev {name} : Script\n{name} = {own}\n"
 
 
-COMPUTATIONS_NOTE = ("calls one within another, several at once and later ones; each refusal, a cut, messages, changes that are asked "
-                     "for, and one that is made")
+COMPUTATIONS_NOTE = ("calls one within another, several at once and later ones; each refusal, cuts, messages, changes that are "
+                     "asked for, and one that is made")
 # What is sent and asked for comes to nobody, since no tick follows: what the script admits is its own items.
 COMPUTATIONS_SCRIPT = stack(
-    "tell 5; ask_b 3; @1 alone 3; outside 1; unbound; loop 1; loop_later 1; thrice 1; along 2; astray 2; three 4; later 6; %2 moving 1;"
-    "%2 change to_c 3; %2 moving 2; %2 @1 moving 4; %2 later 1; %2 @1 send 0 9; %2 send 7 8; %2 ask 1 2", nodes=2, ticks=2)
+    "%2 moving 1; tell 5; ask_b 3; @1 alone 3; outside 1; unbound; loop 1; loop_later 1; thrice 1; along 2; astray 2; three 4;"
+    "later 6; %2 change to_c 3; %2 moving 2; %2 @1 moving 4; %2 later 1; %2 @1 send 0 9; %2 send 7 8; %2 ask 1 2",
+    nodes=2, ticks=2)
 
 
 def scripts_file():
@@ -135,7 +139,7 @@ def scripts_file():
 # ---- computations entry by entry
 
 def seen(script, computation):
-    """A computation's entries, its ending and how many handler steps it made, in lines after one that tells what began it."""
+    """A computation's entries, its ending and how many handler steps it made, after a line that tells what began it."""
     entries = terms.rows(map(terms.entry, computation.entries), 6).lstrip()
     admission = computation.admission
     what, number = admission.cause
@@ -163,10 +167,7 @@ def runs_file():
     parts = [
         "-- what is seen of a computation: its entries, its ending, and how many handler steps it made\n"
         "abbrev seen : Ran → List Entry × Ending × ℕ\nseen ran = (ran.world.entries, ran.value, length ran.world.turns)\n",
-        "-- what is admitted, in the order of the ticks\n"
-        f"items_are_admitted : history computations ≡\n{terms.rows([terms.admission(own.admission) for own in run.computations])}\n"
-        f"{opened}\nitems_are_admitted = refl\n",
-        "-- each of them whole, after those before\n"
+        "-- what is admitted, in the order of the ticks: each whole, after those before\n"
         f"computations_run : map seen (serial computations (history computations)).comps ≡ {comps} ∷\n    []\n"
         f"{opened}\ncomputations_run = refl\n"]
     for node, (boxes, table) in enumerate(zip(run.boxes, tables(script, run))):
@@ -177,8 +178,10 @@ def runs_file():
             f"-- the states and the bindings that stand at the end at node {node}\n"
             f"states_at_{node} : map ((serial computations (history computations)).states {node}) ({positions}) ≡ {states}\n"
             f"{opened}\nstates_at_{node} = refl\n\n"
-            f"bindings_at_{node} : table_of computations (history computations) {node} ≡ {bound}\n{opened}\nbindings_at_{node} = refl\n")
-    return terms.file("Computations of a serial run, entry by entry, as the reference program runs them.", "\n".join(parts), IMPORTS)
+            f"bindings_at_{node} : table_of computations (history computations) {node} ≡ {bound}\n"
+            f"{opened}\nbindings_at_{node} = refl\n")
+    head = "Computations of a serial run, entry by entry, as the reference program runs them."
+    return terms.file(head, "\n".join(parts), IMPORTS)
 
 
 # ---- reports
@@ -190,7 +193,8 @@ def lines(text):
 
 def reported(name, definition, opened, script, run, calls):
     """The lemma that a definition gives the report of a run."""
-    return (f"{name} : {definition} {'true' if calls else 'false'} ≡ report_of_lines (\n{lines(report(script, run, calls))})\n"
+    text = lines(report(script, run, calls))
+    return (f"{name} : {definition} {'true' if calls else 'false'} ≡ report_of_lines (\n{text})\n"
             f"unfolding {opened}\n{name} = refl\n")
 
 
@@ -223,13 +227,16 @@ TICKING = [
             stack("send 9 1; %2 send 9 1; %3 send 9 1; %2 @2 send 1 1; %2 @2 send 0 1", nodes=3, ticks=4, lose=[
                 samples.loss(0, 1, 2, 3), samples.loss(0, 0, 1, 1), samples.loss(2, 0, 1, 9), samples.loss(1, 2, 1, 9)])),
     Ticking("crashes", "a node that admits nothing from its tick on: no item, no message, no change that it asked for",
-            stack("@1 add 1; @1 ask 1 2; send 1 5; %2 @1 add 1; %2 send 9 3; %3 @1 add 1; %3 add 2", nodes=2, ticks=3, crash=[
-                {"node": 1, "tick": 2}])),
+            stack("@1 add 1; @1 ask 1 2; send 1 5; %2 @1 add 1; %2 send 9 3; %3 @1 add 1; %3 add 2", nodes=2, ticks=3,
+                  crash=[{"node": 1, "tick": 2}])),
     Ticking("changes", "changes that were asked for come first, then the script's own items, then messages",
-            stack("moving 1; ask 1 2; @1 ask 1 5; %2 moving 3; %2 change to_c 7; %2 moving 4; %3 moving 5", nodes=2, ticks=3)),
-    Ticking("flood_cut_in_its_third_tick", "messages that double in each tick: the limit is passed in the third, and no fourth is run",
+            stack("moving 1; ask 1 2; @1 ask 1 5; %2 moving 3; %2 change to_c 7; %2 moving 4; %3 moving 5", nodes=2,
+                  ticks=3)),
+    Ticking("flood_cut_in_its_third_tick",
+            "messages that double in each tick: the limit is passed in the third, and no fourth is run",
             stack("flood", nodes=2, ticks=4), 6),
-    Ticking("as_many_as_the_limit", "as many computations as the limit, and no more", stack("flood; %2 add 1", nodes=2, ticks=2), 4),
+    Ticking("as_many_as_the_limit", "as many computations as the limit, and no more",
+            stack("flood; %2 add 1", nodes=2, ticks=2), 4),
     Ticking("one_more_than_the_limit", "one more than the limit", stack("flood; %2 add 1", nodes=2, ticks=2), 3),
     Ticking("limit_met_before_the_last_tick", "the limit is met exactly in the second tick, and passed in the third",
             stack("flood; %2 add 1; %3 add 2", nodes=2, ticks=3), 4),
@@ -248,10 +255,14 @@ def ticking(own):
 
 
 def ticks_file():
-    return terms.file("What ticks admit, by the reports that the reference program writes.", "\n".join(map(ticking, TICKING)), IMPORTS)
+    head = "What ticks admit, by the reports that the reference program writes."
+    return terms.file(head, "\n".join(map(ticking, TICKING)), IMPORTS)
 
 
-FILES = {"ReferenceScripts": scripts_file, "ReferenceRuns": runs_file, "ReferenceReport": report_file, "ReferenceTicks": ticks_file}
+FILES = {
+    "ReferenceScripts": scripts_file, "ReferenceRuns": runs_file, "ReferenceReport": report_file,
+    "ReferenceTicks": ticks_file,
+}
 
 
 # ---- the group stack, whose parts samoa_laws has
@@ -286,6 +297,6 @@ def group_file():
     body = (f"abbrev one_cast : Script\none_cast = {terms.record(fields)}\n\n"
             f"one_cast_reported : report_in_full one_cast false ≡\n    {text}\nunfolding {' '.join(opened)}\n"
             "one_cast_reported = refl\n")
-    head = ("The report of a script of the group stack, run by the prover: a broadcast of one node. The expected values come from an "
-            "independent program.")
+    head = ("The report of a script of the group stack, run by the prover: a broadcast of one node. The expected values come "
+            "from an independent program.")
     return terms.file(head, body, GROUP_IMPORTS)

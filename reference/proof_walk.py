@@ -20,18 +20,22 @@ CHANGE = {"name": "c", "event": "e", "table": [ROW]}
 ITEM = {"tick": 1, "node": 0, "event": "e"}
 LOSS = {"from": 0, "to": 1, "first": 0, "last": 9}
 CRASH = {"node": 1, "tick": 2}
-PLAIN = {"version": 1, "nodes": 2, "ticks": 3, "micros": [PROG, LINK], "decls": [SET], "events": [EVENT], "changes": [CHANGE]}
+PLAIN = {
+    "version": 1, "nodes": 2, "ticks": 3, "micros": [PROG, LINK], "decls": [SET], "events": [EVENT], "changes": [CHANGE],
+}
 
 PARTS = {
     "handler_h": CODE, "handler_g": CODE_G, "micro_a": PROG, "micro_l": LINK, "set_s": SET, "bound_of_a": BOUND_ITEM,
-    "bound_b": BOUND, "route_r": ROUTE, "event_e": EVENT, "row_e": ROW, "change_c": CHANGE, "item_e": ITEM, "loss_of_all": LOSS,
+    "bound_b": BOUND, "route_r": ROUTE, "event_e": EVENT, "row_e": ROW, "change_c": CHANGE, "item_e": ITEM,
+    "loss_of_all": LOSS,
     "crash_of_1": CRASH, "plain": PLAIN, }
 
 OBJECTS = {
     "code": ("handlers", "code_fault", "handler"), "micro": ("micros", "micro_fault", "micro"),
     "bound": ("bounds", "bound_fault", "bound"), "decl": ("decls", "decl_fault", "declaration"),
     "event": ("events", "event_fault", "event"), "table": ("table", "table_fault", "row"),
-    "change": ("changes", "change_fault", "change"), "do": ("do", "do_fault", "item"), "loss": ("lose", "loss_fault", "loss"),
+    "change": ("changes", "change_fault", "change"), "do": ("do", "do_fault", "item"),
+    "loss": ("lose", "loss_fault", "loss"),
     "crash": ("crash", "crash_fault", "crash"),
 }
 OPENED = {"micro_fault": "micro_fault code_fault instr_in", "code_fault": "code_fault instr_in",
@@ -45,7 +49,8 @@ WALK = " ".join(["walk_fault", "form_of_all", "draft_of", *PASSES, *FAULTS, *DRA
 MEANING = " ".join(["script_meant", "script_of", "draft_of", *DRAFTS, *MEANT, "instr_in"])
 
 IMPORTS = [
-    ("Rattle.std.specs.Prelude", ["◌≡◌", "negsuc", "true", "List", "[]", "◌∷◌", "codes", "map", "Option", "Some", "None", "refl"]),
+    ("Rattle.std.specs.Prelude",
+     ["◌≡◌", "negsuc", "true", "List", "[]", "◌∷◌", "codes", "map", "Option", "Some", "None", "refl"]),
     ("Rattle.serde_json.specs.Data", ["Data", "null", "boolean", "number", "negative"]),
     ("Rattle.samoa_model.specs.declared.setup.Place.TheVariants", ["Reg", "Local"]),
     ("Rattle.samoa_model.specs.declared.setup.Instr", ["Instr"]),
@@ -62,8 +67,8 @@ IMPORTS = [
     ("Rattle.samoa_grammar.specs.Meaning", ["script_of", *MEANT]),
     ("Rattle.samoa_grammar.proofs.ReferenceParts", list(PARTS)),
     ("Rattle.samoa_grammar.proofs.ReferenceTrees",
-     ["event", "change", "handler", "node", "str", "num", "arr", "obj", "but", "without", "times", "missing", "wrong", "unknown",
-      "twice", "over", "Answers"]),
+     ["event", "change", "handler", "node", "str", "num", "arr", "obj", "but", "without", "times", "missing", "wrong",
+      "unknown", "twice", "over", "Answers"]),
 ]
 
 
@@ -117,25 +122,31 @@ def table(name, note, test, opened, values, parts):
         tree, line = value
         lines.append(f"{held}({terms.tree(tree, parts)}, {terms.fault(line)})")
         held = ""
-    return (f"-- {note}\n{name} : Answers {terms.argument(test)} (\n{terms.rows(lines)})\nunfolding {opened}\n{name} = refl\n")
+    return (f"-- {note}\n{name} : Answers {terms.argument(test)} (\n{terms.rows(lines)})\n"
+            f"unfolding {opened}\n{name} = refl\n")
+
+
+def with_faults(values, test):
+    """Trees with their faults, and the notes between them."""
+    return [value if isinstance(value, str) else (value, test(value)) for value in values]
 
 
 def object_table(name, note, sort, values, parts):
     key, function, _ = OBJECTS[sort]
-    found = [value if isinstance(value, str) else (value, object_fault(sort, value)) for value in values]
+    found = with_faults(values, lambda value: object_fault(sort, value))
     return table(name, note, f'{function} (codes "{key}")', OPENED.get(function, function), found, parts)
 
 
 def pass_table(name, note, number, values, parts):
     """A table of a pass after the first, over trees that are well formed."""
     test = (script.twice_pass, script.unknown_pass, script.totals_pass)[number]
-    found = [value if isinstance(value, str) else (value, fault_of(lambda: test(script.FormPass().top(value)))) for value in values]
+    found = with_faults(values, lambda value: fault_of(lambda: test(script.FormPass().top(value))))
     opened = " ".join([PASSES[number], "draft_of", *DRAFTS, "instr_in"])
     return table(name, note, f"λ d. {PASSES[number]} (draft_of d)", opened, found, parts)
 
 
 def whole_table(name, note, values, parts):
-    found = [value if isinstance(value, str) else (value, whole_fault(value)) for value in values]
+    found = with_faults(values, whole_fault)
     return table(name, note, "walk_fault", WALK, found, parts)
 
 
@@ -178,7 +189,8 @@ MICRO_ROWS = [
     {**LINK, "ports": ["e"] * 16}, {**LINK, "ports": ["e"] * 17}, {**LINK, "ports": [1] * 17}, {**LINK, "ports": "e"},
     {**LINK, "changes": ["c"] * 16}, {**LINK, "changes": ["c"] * 17}, {**LINK, "changes": ["c", ""]},
     "the first key of the table that has a fault tells it",
-    {"ports": 1, "nums": 1, "changes": 1, "kind": "link", "name": "l"}, {"ports": 1, "changes": 1, "kind": "link", "name": "l"},
+    {"ports": 1, "nums": 1, "changes": 1, "kind": "link", "name": "l"},
+    {"ports": 1, "changes": 1, "kind": "link", "name": "l"},
     {"kind": 1, "name": 1},
 ]
 
@@ -211,7 +223,8 @@ BOUND_ROWS = [
 ]
 
 EVENT_ROWS = [
-    EVENT, {**EVENT, "handlers": []}, without(EVENT, "name"), {**EVENT, "name": 1}, without(EVENT, "decl"), {**EVENT, "decl": []},
+    EVENT, {**EVENT, "handlers": []}, without(EVENT, "name"), {**EVENT, "name": 1}, without(EVENT, "decl"),
+    {**EVENT, "decl": []},
     without(EVENT, "handlers"), {**EVENT, "handlers": ["a.h"] * 4}, {**EVENT, "handlers": ["a.h"] * 5},
     {**EVENT, "handlers": ["a"]}, {**EVENT, "event": "e"},
 ]
@@ -231,7 +244,8 @@ ITEM_ROWS = [
     ITEM, {"tick": 1, "node": 0, "change": "c"}, "one of event and change", {**ITEM, "change": "c"}, without(ITEM, "event"),
     {**ITEM, "event": 1}, {"tick": 1, "node": 0, "change": 1}, "ticks begin at 1, nodes at 0",
     without(ITEM, "tick"), {**ITEM, "tick": 0}, {**ITEM, "tick": 2 ** 64 - 1}, without(ITEM, "node"), {**ITEM, "node": "0"},
-    {**ITEM, "node": 2 ** 64 - 1}, "arguments", {**ITEM, "args": [1] * 12}, {**ITEM, "args": [1] * 13}, {**ITEM, "args": ["1"]},
+    {**ITEM, "node": 2 ** 64 - 1}, "arguments", {**ITEM, "args": [1] * 12}, {**ITEM, "args": [1] * 13},
+    {**ITEM, "args": ["1"]},
     {**ITEM, "arg": 1},
 ]
 
@@ -267,11 +281,15 @@ INSTRUCTIONS = [
     ["set", "r0", 7], ["set", "x3", 2 ** 64 - 1], ["set", "r4", 1], ["set", "y0", 1], ["set", "r", 1], ["set", "r00", 1],
     ["set", 0, 1], ["set", "r0", "1"], ["set", "r0"], ["set", "r0", 1, 1], ["copy", "x1", "r2"], ["copy", "x1", 1],
     ["copy", "r9", "r2"], ["add", "r3", "x0"], ["add", "r3", 1], ["sub", "x2", "r1"], ["sub", 1, "r1"],
-    ["less", "x0", "x1", 1], ["less", "r0", "r1", 31], ["less", "r0", "r1", 0], ["less", "r0", "r1", 32], ["less", "r0", "r1"],
-    ["less", "r0", 1, 1], ["less", 1, "r0", 1], ["call", 15, 4], ["call", 0, 5], ["call", "x0", 1], ["call", 0], ["later", 1, 0],
-    ["later", 1, 5], ["later", "x0", 0], ["send", "x3", 2, 4], ["send", "x3", 2, 5], ["send", 3, 2, 4], ["send", "x3", "2", 4],
+    ["less", "x0", "x1", 1], ["less", "r0", "r1", 31], ["less", "r0", "r1", 0], ["less", "r0", "r1", 32],
+    ["less", "r0", "r1"],
+    ["less", "r0", 1, 1], ["less", 1, "r0", 1], ["call", 15, 4], ["call", 0, 5], ["call", "x0", 1], ["call", 0],
+    ["later", 1, 0],
+    ["later", 1, 5], ["later", "x0", 0], ["send", "x3", 2, 4], ["send", "x3", 2, 5], ["send", 3, 2, 4],
+    ["send", "x3", "2", 4],
     ["send", "x3", 2], ["deliver", 4], ["deliver", 5], ["deliver", "x0"], ["deliver"], ["change", 0, 3], ["change", 0, 5],
-    ["change", "x0", 3], ["done", 0], ["done", 5], ["done", 1, 1], ["done"], ["stop", 1], ["Done", 1], [1, 1], [], {}, "done",
+    ["change", "x0", 3], ["done", 0], ["done", 5], ["done", 1, 1], ["done"], ["stop", 1], ["Done", 1], [1, 1], [], {},
+    "done",
     ["done", json_text.OtherValue("-1")], ["call", 0, 0, 0, 0],
 ]
 
@@ -306,9 +324,12 @@ def with_decls(*values):
 
 TWICE_ROWS = [
     PLAIN, micros(PROG, LINK, PROG), micros({**PROG, "handlers": [CODE, CODE_G, CODE]}, LINK), with_decls(SET),
-    {**PLAIN, "events": [EVENT, EVENT]}, {**PLAIN, "changes": [CHANGE, CHANGE]}, with_decls({**SET, "name": "t", "micros": ["a", "l", "a"]}),
-    with_decls({**BOUND, "bounds": [BOUND_ITEM, {"micro": "a", "calls": 1}]}), {**PLAIN, "events": [{**EVENT, "handlers": ["a.h", "a.g", "a.h"]}]},
-    {**PLAIN, "changes": [{**CHANGE, "table": [ROW, ROW]}]}, {**PLAIN, "changes": [{**CHANGE, "table": [{**ROW, "handlers": ["a.g", "a.g"]}]}]},
+    {**PLAIN, "events": [EVENT, EVENT]}, {**PLAIN, "changes": [CHANGE, CHANGE]},
+    with_decls({**SET, "name": "t", "micros": ["a", "l", "a"]}),
+    with_decls({**BOUND, "bounds": [BOUND_ITEM, {"micro": "a", "calls": 1}]}),
+    {**PLAIN, "events": [{**EVENT, "handlers": ["a.h", "a.g", "a.h"]}]},
+    {**PLAIN, "changes": [{**CHANGE, "table": [ROW, ROW]}]},
+    {**PLAIN, "changes": [{**CHANGE, "table": [{**ROW, "handlers": ["a.g", "a.g"]}]}]},
     "of two names that stand twice, that whose second place comes first",
     micros(PROG, LINK, LINK, PROG),
     "allowed: handlers of two microprotocols, ports, changes, and the parts of a route, which are taken once",
@@ -319,7 +340,8 @@ TWICE_ROWS = [
     {**with_decls(SET), "events": [EVENT, EVENT]}, {**PLAIN, "events": [EVENT, EVENT], "changes": [CHANGE, CHANGE]},
     {**with_decls({**SET, "name": "t", "micros": ["l", "l"]}), "events": [{**EVENT, "handlers": ["a.h", "a.h"]}]},
     {**PLAIN, "events": [{**EVENT, "handlers": ["a.h", "a.h"]}], "changes": [{**CHANGE, "table": [ROW, ROW]}]},
-    {**PLAIN, "changes": [{**CHANGE, "table": [{**ROW, "handlers": ["a.g", "a.g"]}]}, {**CHANGE, "name": "d", "table": [ROW, ROW]}]},
+    {**PLAIN, "changes": [{**CHANGE, "table": [{**ROW, "handlers": ["a.g", "a.g"]}]},
+                          {**CHANGE, "name": "d", "table": [ROW, ROW]}]},
 ]
 
 UNKNOWN_ROWS = [
@@ -344,7 +366,8 @@ NAME_PARTS = ["bound_of_a", "bound_b", "route_r", "item_e", *SCRIPT_PARTS]
 
 
 def names_file():
-    head = "Names of a script: trees that are well formed, and beside each the fault that the reference program finds in its names."
+    head = ("Names of a script: trees that are well formed, and beside each the fault that the reference program finds in its "
+            "names.")
     rows = [("repeated_names", "names that stand twice", 0, TWICE_ROWS, NAME_PARTS),
             ("unknown_names", "names that aren't defined", 1, UNKNOWN_ROWS, NAME_PARTS)]
     return terms.file(head, tables(rows, pass_table), IMPORTS)
@@ -357,7 +380,7 @@ def of_kind(kind, ports):
 
 
 def several(kind, count):
-    """A script of eight nodes with so many microprotocols of a kind. Their names are the same, which this pass doesn't test."""
+    """A script of eight nodes with so many microprotocols of a kind, of one name, which this pass doesn't test."""
     own = PROG if kind == "prog" else of_kind(kind, script.LEAST_PORTS[kind])
     return {**micros(*[own] * count), "nodes": 8}
 
@@ -373,12 +396,15 @@ PORT_ROWS = [
     *(micros(of_kind(kind, least)) for kind, least in script.LEAST_PORTS.items() if least), micros({**PROG, "ports": []}),
 ]
 POSITION_ROWS = [
-    in_code("call", 0, 1), in_code("call", 1, 1), in_code("later", 0, 1), in_code("later", 1, 1), in_code("send", "x0", 0, 1),
+    in_code("call", 0, 1), in_code("call", 1, 1), in_code("later", 0, 1), in_code("later", 1, 1),
+    in_code("send", "x0", 0, 1),
     in_code("send", "x0", 1, 1), in_code("change", 0, 1), in_code("change", 1, 1), in_code("call", 2 ** 64 - 1, 0),
 ]
 NODE_ROWS = [
-    {**PLAIN, "do": [{**ITEM, "node": 2}]}, {**PLAIN, "do": [{**ITEM, "tick": 4}]}, {**PLAIN, "do": [{**ITEM, "node": 1, "tick": 3}]},
-    {**PLAIN, "lose": [{**LOSS, "from": 2}]}, {**PLAIN, "lose": [{**LOSS, "to": 2}]}, {**PLAIN, "lose": [{**LOSS, "first": 10}]},
+    {**PLAIN, "do": [{**ITEM, "node": 2}]}, {**PLAIN, "do": [{**ITEM, "tick": 4}]},
+    {**PLAIN, "do": [{**ITEM, "node": 1, "tick": 3}]},
+    {**PLAIN, "lose": [{**LOSS, "from": 2}]}, {**PLAIN, "lose": [{**LOSS, "to": 2}]},
+    {**PLAIN, "lose": [{**LOSS, "first": 10}]},
     {**PLAIN, "crash": [{**CRASH, "node": 2}]}, {**PLAIN, "crash": [{**CRASH, "tick": 99}]},
 ]
 KIND_ROWS = [*(several(kind, 5) for kind in script.KINDS), several("prog", 4), several("views", 4)]
@@ -386,19 +412,22 @@ ORDER_ROWS = [
     {**micros({**PROG, "handlers": [{**CODE, "code": [["call", 1, 1]]}]}, of_kind("fd", 1)), "nodes": 8},
     {**in_code("call", 1, 1), "do": [{**ITEM, "node": 2}]}, {**PLAIN, "do": [{**ITEM, "tick": 4}, {**ITEM, "node": 2}]},
     {**PLAIN, "do": [{**ITEM, "tick": 4}], "lose": [{**LOSS, "to": 2, "from": 2}], "crash": [{**CRASH, "node": 3}]},
-    {**PLAIN, "do": [{**ITEM, "tick": 4}], "crash": [{**CRASH, "node": 2}]}, {**several("fd", 5), "do": [{**ITEM, "tick": 4}]},
+    {**PLAIN, "do": [{**ITEM, "tick": 4}], "crash": [{**CRASH, "node": 2}]},
+    {**several("fd", 5), "do": [{**ITEM, "tick": 4}]},
     {**micros(*several("views", 5)["micros"], *several("prog", 5)["micros"]), "nodes": 8},
 ]
 
 
 def totals_file():
-    head = "Positions and totals of a script: trees whose names are defined, and beside each the fault that the reference program finds then."
+    head = ("Positions and totals of a script: trees whose names are defined, and beside each the fault that the reference "
+            "program finds then.")
     rows = [("ports_that_are_needed", "the ports that each kind needs", 2, PORT_ROWS, SCRIPT_PARTS),
             ("positions_in_code", "ports and changes that code speaks of", 2, POSITION_ROWS, SCRIPT_PARTS),
-            ("nodes_and_ticks_in_range", "nodes and ticks", 2, NODE_ROWS, ["item_e", "loss_of_all", "crash_of_1", *SCRIPT_PARTS]),
+            ("nodes_and_ticks_in_range", "nodes and ticks", 2, NODE_ROWS,
+             ["item_e", "loss_of_all", "crash_of_1", *SCRIPT_PARTS]),
             ("microprotocols_in_all", "nodes times the microprotocols of a kind", 2, KIND_ROWS, SCRIPT_PARTS),
-            ("first_group_that_has_a_fault", "faults of two groups of tests, of which the first group tells its own", 2, ORDER_ROWS,
-             ["item_e", "loss_of_all", "crash_of_1", *SCRIPT_PARTS])]
+            ("first_group_that_has_a_fault", "faults of two groups of tests, of which the first group tells its own", 2,
+             ORDER_ROWS, ["item_e", "loss_of_all", "crash_of_1", *SCRIPT_PARTS])]
     return terms.file(head, tables(rows, pass_table), IMPORTS)
 
 
@@ -412,9 +441,10 @@ TOO_MANY_TO_VISIT = {"do"}
 
 
 def list_rows(key, limit):
-    """A list that is none, an empty one, one with an item that is none, one of as many items as there may be, and one more."""
+    """What is no list, an empty one, one with a number in it, one of as many items as there may be, and of one more."""
     full = [] if key in TOO_MANY_TO_VISIT else [{**PLAIN, key: [ITEMS[key]] * limit}]
-    return [{**PLAIN, key: {}}, {**PLAIN, key: []}, {**PLAIN, key: [ITEMS[key], 1]}, *full, {**PLAIN, key: [ITEMS[key]] * (limit + 1)}]
+    return [{**PLAIN, key: {}}, {**PLAIN, key: []}, {**PLAIN, key: [ITEMS[key], 1]}, *full,
+            {**PLAIN, key: [ITEMS[key]] * (limit + 1)}]
 
 
 KEY_ROWS = [
@@ -422,8 +452,8 @@ KEY_ROWS = [
     *(without(PLAIN, key) for key in KEYS[:6]), {**PLAIN, "version": 2}, {**PLAIN, "version": "1"}, {**PLAIN, "nodes": 0},
     {**PLAIN, "nodes": 8}, {**PLAIN, "nodes": 9}, {**PLAIN, "nodes": []}, {**PLAIN, "ticks": 0}, {**PLAIN, "ticks": 10_000},
     {**PLAIN, "ticks": 10_001}, {**PLAIN, "ticks": "1"},
-    "of several keys the first one of the table tells its fault",
-    *({**PLAIN, **{key: 0 for key in KEYS[first:]}} for first in range(len(KEYS))),
+    "of two keys the first one of the table tells its fault",
+    *({**PLAIN, first: 0, second: 0} for first, second in zip(KEYS, KEYS[1:])),
 ]
 LIST_ROWS = [row for key, limit in LISTS.items() for row in list_rows(key, limit)]
 
@@ -431,28 +461,32 @@ TWICE = {"events": [EVENT, EVENT]}
 UNKNOWN = {"decls": [{**SET, "micros": ["m"]}]}
 OUTSIDE = {"crash": [{**CRASH, "node": 2}]}
 PASS_ROWS = [
-    {**PLAIN, **TWICE, **UNKNOWN, **OUTSIDE, "lose": [1]}, {**PLAIN, **TWICE, **UNKNOWN, **OUTSIDE}, {**PLAIN, **UNKNOWN, **OUTSIDE},
+    {**PLAIN, **TWICE, **UNKNOWN, **OUTSIDE, "lose": [1]}, {**PLAIN, **TWICE, **UNKNOWN, **OUTSIDE},
+    {**PLAIN, **UNKNOWN, **OUTSIDE},
     {**PLAIN, **OUTSIDE}, {**PLAIN, "do": [ITEM], "lose": [LOSS], "crash": [CRASH]},
 ]
 
 
 def form_table(name, note, values, parts):
-    found = [value if isinstance(value, str) else (value, fault_of(lambda: script.FormPass().top(value))) for value in values]
+    found = with_faults(values, lambda value: fault_of(lambda: script.FormPass().top(value)))
     return table(name, note, "form_of_all", " ".join(["form_of_all", *FAULTS, "instr_in"]), found, parts)
 
 
 def walk_file():
-    head = "Whole scripts: trees, and beside each the fault that the reference program finds in the first pass and in all four."
+    head = "Whole scripts: trees, and beside each the fault that the reference program finds in the first pass or in all four."
     items = ["item_e", "loss_of_all", "crash_of_1", *SCRIPT_PARTS]
-    forms = tables([("keys_of_a_script", "the keys of a script", KEY_ROWS, items), ("lists_of_a_script", "its lists", LIST_ROWS, items)], form_table)
-    passes = whole_table("first_pass_that_has_a_fault", "a fault of each pass: each goes over the whole tree before the next", PASS_ROWS, parts_of(items))
+    forms = tables([("keys_of_a_script", "the keys of a script", KEY_ROWS, items),
+                    ("lists_of_a_script", "its lists", LIST_ROWS, items)], form_table)
+    passes = whole_table("first_pass_that_has_a_fault", "a fault of each pass: each goes over the whole tree before the next",
+                         PASS_ROWS, parts_of(items))
     return terms.file(head, f"{forms}\n{passes}", IMPORTS)
 
 
 # ---- meaning
 
 EVERY_CODE = [
-    ["set", "r0", 7], ["copy", "x1", "r0"], ["add", "r2", "x0"], ["sub", "r3", "x1"], ["less", "x0", "x1", 2], ["call", 1, 2],
+    ["set", "r0", 7], ["copy", "x1", "r0"], ["add", "r2", "x0"], ["sub", "r3", "x1"], ["less", "x0", "x1", 2],
+    ["call", 1, 2],
     ["later", 0, 0], ["send", "x3", 1, 4], ["deliver", 3], ["change", 1, 1], ["done", 1],
 ]
 EVERY_KIND = [{"name": f"k_{kind}", "kind": kind, "ports": ["f", "e", "f"]} for kind in script.KINDS[2:]]
@@ -463,10 +497,12 @@ EVERYTHING = {
                 "handlers": [{"name": "h", "code": EVERY_CODE}, {"name": "g", "code": []}]},
                {"name": "l", "kind": "link", "ports": ["f"]}, *EVERY_KIND],
     "decls": [{"name": "s", "form": "set", "micros": ["l", "a"]},
-              {"name": "b", "form": "bound", "budget": 7, "bounds": [{"micro": "l", "calls": 1}, {"micro": "a", "calls": 3}]},
+              {"name": "b", "form": "bound", "budget": 7,
+               "bounds": [{"micro": "l", "calls": 1}, {"micro": "a", "calls": 3}]},
               {"name": "r", "form": "route", "budget": 256, "roots": ["a.h", "l.recv", "a.h"],
                "edges": [["a.g", "a.h"], ["a.g", "k_cons.suspect"], ["a.g", "a.h"]]}],
-    "events": [{"name": "e", "decl": "r", "handlers": ["a.g", "k_abcast.decided"]}, {"name": "f", "decl": "b", "handlers": []}],
+    "events": [{"name": "e", "decl": "r", "handlers": ["a.g", "k_abcast.decided"]},
+               {"name": "f", "decl": "b", "handlers": []}],
     "changes": [{"name": "c", "event": "f", "table": [{"event": "e", "handlers": ["k_repl.switched", "k_seqcast.recv"]}]},
                 {"name": "d", "event": "e", "table": [{"event": "f", "handlers": []}, {"event": "e", "handlers": ["a.h"]}]}],
     "do": [{"tick": 3, "node": 1, "event": "f", "args": [1, 2]}, {"tick": 1, "node": 0, "change": "d"}],

@@ -55,12 +55,14 @@ def write_all():
         maker()
 
 
-# What no definition of these files speaks of: the bytes of a script, its canonical text and its cells; and a route of more than
-# 32 handlers, which takes the prover too long.
+# What no definition of these files speaks of: the bytes of a script, its canonical text and its cells; and a route of more
+# than 32 handlers, which takes the prover too long.
 NOT_RUN = {
-    "script": ['raise over("edges", 32)', 'raise Fault("TooLong")', "except json_text.NotJson:", 'raise Fault("NotJson") from None',
+    "script": ['raise over("edges", 32)', 'raise Fault("TooLong")', "except json_text.NotJson:",
+               'raise Fault("NotJson") from None',
                "return json_text.compact(script.tree)",
-               "return max(cells_of_budget(declaration.budget) for declaration in script.declarations)", "return 16 * budget + 16"],
+               "return max(cells_of_budget(declaration.budget) for declaration in script.declarations)",
+               "return 16 * budget + 16"],
 }
 
 
@@ -105,7 +107,8 @@ class Terms(unittest.TestCase):
             self.assertEqual(terms.tree(value, parts), term)
 
     def test_faults_and_instructions(self):
-        self.assertEqual([terms.fault(line) for line in ("Missing name", "Over ports 16", None)], ['missing "name"', 'over "ports" 16', "None"])
+        told = [terms.fault(line) for line in ("Missing name", "Over ports 16", None)]
+        self.assertEqual(told, ['missing "name"', 'over "ports" 16', "None"])
         self.assertEqual(terms.instruction(["less", "x0", "r3", 2]), "instr.Less (Local 0) (Reg 3) 2")
 
     def test_moments_and_outcomes(self):

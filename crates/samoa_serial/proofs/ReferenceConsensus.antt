@@ -5,15 +5,17 @@ use Rattle.samoa_model.specs.declared.handler.Outcome.TheVariants as gives
 use Rattle.samoa_model.specs.declared.setup.Kind.TheVariants as kinds
 use Rattle.samoa_serial.proofs.ReferenceWords.{event, node, goes_on, Gives}
 
--- consensus at the coordinator of the first round, of three nodes
+-- consensus at the coordinator of the first round
 a_coordinator_proposes_and_announces : Gives kinds.Cons (record { node = node 0; nodes = 3; ports = event 10 ∷ event 11 ∷ event 12 ∷ []; changes = []; nums = 6 ∷ []; codes = [] }) (
+    -- an acknowledgement before there is a proposal, which isn't counted
+    (Begin 1 (2 ∷ 3 ∷ 4 ∷ 1 ∷ 0 ∷ 0 ∷ 2 ∷ 1 ∷ 0 ∷ 70 ∷ []), gives.Done [], 0 ∷ 0 ∷ []) ∷
     -- its own proposal, once in an instance
     (Begin 0 (4 ∷ 0 ∷ 2 ∷ 1 ∷ 0 ∷ 70 ∷ []), gives.Call (event 10) (0 ∷ 6 ∷ 1 ∷ 4 ∷ 1 ∷ 0 ∷ 0 ∷ 2 ∷ 1 ∷ 0 ∷ 70 ∷ []) [], 0 ∷ 1 ∷ []) ∷
     (goes_on 0 [], gives.Done [], 0 ∷ 1 ∷ []) ∷
     (Begin 0 (4 ∷ 0 ∷ 2 ∷ 2 ∷ 0 ∷ 71 ∷ []), gives.Done [], 0 ∷ 1 ∷ []) ∷
-    -- the second estimate is a majority; one of each sender counts
+    -- the second estimate is a majority; of each sender the first one counts
     (Begin 1 (0 ∷ 1 ∷ 4 ∷ 1 ∷ 0 ∷ 0 ∷ 2 ∷ 1 ∷ 0 ∷ 70 ∷ []), gives.Done [], 0 ∷ 1 ∷ []) ∷
-    (Begin 1 (0 ∷ 1 ∷ 4 ∷ 1 ∷ 0 ∷ 0 ∷ 2 ∷ 1 ∷ 0 ∷ 70 ∷ []), gives.Done [], 0 ∷ 1 ∷ []) ∷
+    (Begin 1 (0 ∷ 1 ∷ 4 ∷ 1 ∷ 5 ∷ 0 ∷ 0 ∷ 1 ∷ 0 ∷ 72 ∷ []), gives.Done [], 0 ∷ 1 ∷ []) ∷
     (Begin 1 (2 ∷ 1 ∷ 4 ∷ 1 ∷ 0 ∷ 0 ∷ 2 ∷ 2 ∷ 0 ∷ 71 ∷ []), gives.Call (event 10) (3 ∷ 6 ∷ 2 ∷ 4 ∷ 1 ∷ 0 ∷ 0 ∷ 2 ∷ 1 ∷ 0 ∷ 70 ∷ []) [], 0 ∷ 1 ∷ []) ∷
     (goes_on 1 [], gives.Done [], 0 ∷ 1 ∷ []) ∷
     (Begin 1 (1 ∷ 1 ∷ 4 ∷ 1 ∷ 9 ∷ 0 ∷ 0 ∷ 1 ∷ 0 ∷ 72 ∷ []), gives.Done [], 0 ∷ 1 ∷ []) ∷
@@ -68,6 +70,7 @@ the_latest_adopted_estimate_is_proposed = refl
 what_a_node_does_not_take : Gives kinds.Cons (record { node = node 1; nodes = 3; ports = event 10 ∷ event 11 ∷ event 12 ∷ []; changes = []; nums = 6 ∷ []; codes = [] }) (
     -- estimates and acknowledgements are for the coordinator, which is node 1 in the second round and the fifth
     (Begin 1 (0 ∷ 1 ∷ 1 ∷ 1 ∷ 0 ∷ 0 ∷ 2 ∷ 1 ∷ 0 ∷ 70 ∷ []), gives.Done [], 0 ∷ 0 ∷ []) ∷
+    (Begin 1 (2 ∷ 1 ∷ 1 ∷ 1 ∷ 0 ∷ 0 ∷ 2 ∷ 1 ∷ 0 ∷ 70 ∷ []), gives.Done [], 0 ∷ 0 ∷ []) ∷
     (Begin 1 (0 ∷ 1 ∷ 1 ∷ 3 ∷ 0 ∷ 0 ∷ 2 ∷ 1 ∷ 0 ∷ 70 ∷ []), gives.Done [], 0 ∷ 0 ∷ []) ∷
     (Begin 1 (0 ∷ 1 ∷ 1 ∷ 0 ∷ 0 ∷ 0 ∷ 2 ∷ 1 ∷ 0 ∷ 70 ∷ []), gives.Done [], 0 ∷ 0 ∷ []) ∷
     (Begin 1 (0 ∷ 3 ∷ 1 ∷ 1 ∷ 0 ∷ 0 ∷ 2 ∷ 1 ∷ 0 ∷ 70 ∷ []), gives.Done [], 0 ∷ 0 ∷ []) ∷
@@ -75,6 +78,7 @@ what_a_node_does_not_take : Gives kinds.Cons (record { node = node 1; nodes = 3;
     (Begin 1 (0 ∷ 1 ∷ 1 ∷ 2 ∷ 0 ∷ 0 ∷ 2 ∷ 1 ∷ 0 ∷ 70 ∷ []), gives.Done [], 0 ∷ 0 ∷ []) ∷
     (Begin 1 (0 ∷ 3 ∷ 1 ∷ 2 ∷ 0 ∷ 0 ∷ 2 ∷ 1 ∷ 0 ∷ 70 ∷ []), gives.Done [], 0 ∷ 0 ∷ []) ∷
     (Begin 1 (0 ∷ 3 ∷ 1 ∷ 0 ∷ 0 ∷ 0 ∷ 2 ∷ 1 ∷ 0 ∷ 70 ∷ []), gives.Done [], 0 ∷ 0 ∷ []) ∷
+    -- other tags and instances, and no words
     (Begin 1 (0 ∷ 4 ∷ 1 ∷ 2 ∷ 0 ∷ 0 ∷ 2 ∷ 1 ∷ 0 ∷ 70 ∷ []), gives.Done [], 0 ∷ 0 ∷ []) ∷
     (Begin 1 (0 ∷ 0 ∷ 1 ∷ 2 ∷ 0 ∷ 0 ∷ 2 ∷ 1 ∷ 0 ∷ 70 ∷ []), gives.Done [], 0 ∷ 0 ∷ []) ∷
     (Begin 1 [], gives.Done [], 0 ∷ 0 ∷ []) ∷
@@ -91,10 +95,11 @@ what_a_node_does_not_take : Gives kinds.Cons (record { node = node 1; nodes = 3;
     (Begin 1 (0 ∷ 2 ∷ 1 ∷ 4 ∷ 0 ∷ 0 ∷ 0 ∷ 2 ∷ 1 ∷ 73 ∷ []), gives.Call (event 10) (0 ∷ 6 ∷ 3 ∷ 1 ∷ 4 ∷ 0 ∷ 0 ∷ 0 ∷ 2 ∷ 1 ∷ 73 ∷ []) [], 0 ∷ 4 ∷ []) ∷
     (Begin 1 (0 ∷ 2 ∷ 1 ∷ 0 ∷ 0 ∷ 0 ∷ 2 ∷ 1 ∷ 0 ∷ 70 ∷ []), gives.Done [], 0 ∷ 4 ∷ []) ∷
     (Begin 0 (1 ∷ 0 ∷ 2 ∷ 2 ∷ 0 ∷ 71 ∷ []), gives.Done [], 0 ∷ 4 ∷ []) ∷
-    (goes_on 0 (1 ∷ 0 ∷ 1 ∷ []), gives.Done [], 0 ∷ 4 ∷ []) ∷
-    (goes_on 1 (1 ∷ 0 ∷ 1 ∷ []), gives.Done [], 0 ∷ 4 ∷ []) ∷
-    (goes_on 2 (1 ∷ 0 ∷ 1 ∷ []), gives.Done [], 0 ∷ 4 ∷ []) ∷
-    (goes_on 3 (1 ∷ 0 ∷ 1 ∷ []), gives.Done [], 0 ∷ 4 ∷ []) ∷
+    -- frames of other handlers than suspect
+    (goes_on 0 (1 ∷ 0 ∷ 0 ∷ []), gives.Done [], 0 ∷ 4 ∷ []) ∷
+    (goes_on 1 (1 ∷ 0 ∷ 0 ∷ []), gives.Done [], 0 ∷ 4 ∷ []) ∷
+    (goes_on 2 (1 ∷ 0 ∷ 0 ∷ []), gives.Done [], 0 ∷ 4 ∷ []) ∷
+    (goes_on 3 (1 ∷ 0 ∷ 0 ∷ []), gives.Done [], 0 ∷ 4 ∷ []) ∷
     [])
 what_a_node_does_not_take = refl
 
@@ -106,7 +111,7 @@ instances_go_to_their_next_round : Gives kinds.Cons (record { node = node 2; nod
     (goes_on 3 [], gives.Done [], 0 ∷ 2 ∷ []) ∷
     (Begin 1 (1 ∷ 2 ∷ 5 ∷ 2 ∷ 0 ∷ 0 ∷ 2 ∷ 2 ∷ 0 ∷ 71 ∷ []), gives.Call (event 10) (1 ∷ 6 ∷ 3 ∷ 5 ∷ 2 ∷ 0 ∷ 0 ∷ 2 ∷ 2 ∷ 0 ∷ 71 ∷ []) [], 0 ∷ 2 ∷ []) ∷
     (Begin 3 (5 ∷ []), gives.Call (event 10) (2 ∷ 6 ∷ 1 ∷ 5 ∷ 3 ∷ 2 ∷ 0 ∷ 2 ∷ 2 ∷ 0 ∷ 71 ∷ []) [], 0 ∷ 3 ∷ []) ∷
-    -- the suspect's instances, in the order of their numbers; not those that are decided, and not those of other coordinators
+    -- the suspect's instances, in the order of their numbers; not those that are decided or have another coordinator
     (Begin 0 (9 ∷ 0 ∷ 0 ∷ 1 ∷ 0 ∷ 72 ∷ []), gives.Call (event 10) (0 ∷ 6 ∷ 1 ∷ 9 ∷ 1 ∷ 0 ∷ 0 ∷ 0 ∷ 1 ∷ 0 ∷ 72 ∷ []) [], 0 ∷ 3 ∷ []) ∷
     (Begin 0 (2 ∷ 0 ∷ 2 ∷ 1 ∷ 0 ∷ 70 ∷ []), gives.Call (event 10) (0 ∷ 6 ∷ 1 ∷ 2 ∷ 1 ∷ 0 ∷ 0 ∷ 2 ∷ 1 ∷ 0 ∷ 70 ∷ []) [], 0 ∷ 3 ∷ []) ∷
     (Begin 0 (7 ∷ 0 ∷ 0 ∷ 2 ∷ 1 ∷ 73 ∷ []), gives.Call (event 10) (0 ∷ 6 ∷ 1 ∷ 7 ∷ 1 ∷ 0 ∷ 0 ∷ 0 ∷ 2 ∷ 1 ∷ 73 ∷ []) [], 0 ∷ 3 ∷ []) ∷

@@ -62,6 +62,9 @@ messages_go_up_in_the_order_of_decisions : Gives kinds.Abcast (record { node = n
     -- a decision of a later instance is kept; of an instance the first one stays
     (Begin 2 (2 ∷ 0 ∷ 2 ∷ 1 ∷ 0 ∷ 70 ∷ []), gives.Done [], 1 ∷ 3 ∷ []) ∷
     (Begin 2 (1 ∷ 0 ∷ 2 ∷ 2 ∷ 0 ∷ 71 ∷ []), gives.Call (event 12) (0 ∷ 2 ∷ 2 ∷ 0 ∷ 71 ∷ []) (1 ∷ 1 ∷ []), 1 ∷ 3 ∷ []) ∷
+    (goes_on 2 (0 ∷ 1 ∷ []), gives.Done [], 1 ∷ 3 ∷ []) ∷
+    (goes_on 1 (1 ∷ 1 ∷ []), gives.Done [], 1 ∷ 3 ∷ []) ∷
+    (goes_on 0 (1 ∷ 1 ∷ []), gives.Done [], 1 ∷ 3 ∷ []) ∷
     (Begin 2 (1 ∷ 0 ∷ 0 ∷ 1 ∷ 0 ∷ 72 ∷ []), gives.Call (event 12) (0 ∷ 2 ∷ 2 ∷ 0 ∷ 71 ∷ []) (1 ∷ 1 ∷ []), 1 ∷ 3 ∷ []) ∷
     (goes_on 2 (1 ∷ 1 ∷ []), gives.Call (event 12) (0 ∷ 2 ∷ 1 ∷ 0 ∷ 70 ∷ []) (1 ∷ 2 ∷ []), 2 ∷ 2 ∷ []) ∷
     (goes_on 2 (1 ∷ 2 ∷ []), gives.Call (event 11) (3 ∷ 0 ∷ 0 ∷ 1 ∷ 0 ∷ 72 ∷ []) (0 ∷ []), 3 ∷ 1 ∷ []) ∷
@@ -76,12 +79,9 @@ messages_go_up_in_the_order_of_decisions : Gives kinds.Abcast (record { node = n
     (goes_on 2 (1 ∷ 5 ∷ []), gives.Call (event 11) (6 ∷ 0 ∷ 0 ∷ 1 ∷ 0 ∷ 72 ∷ []) (0 ∷ []), 6 ∷ 1 ∷ []) ∷
     (Begin 2 (6 ∷ 0 ∷ 0 ∷ 1 ∷ 0 ∷ 72 ∷ []), gives.Call (event 12) (0 ∷ 0 ∷ 1 ∷ 0 ∷ 72 ∷ []) (1 ∷ 6 ∷ []), 6 ∷ 1 ∷ []) ∷
     (goes_on 2 (1 ∷ 6 ∷ []), gives.Done [], 7 ∷ 0 ∷ []) ∷
-    -- other frames: of an instance that was passed, of one with no decision, of other handlers
+    -- frames of an instance that was passed and of one with no decision
     (goes_on 2 (1 ∷ 3 ∷ []), gives.Done [], 7 ∷ 0 ∷ []) ∷
     (goes_on 2 (1 ∷ 7 ∷ []), gives.Done [], 7 ∷ 0 ∷ []) ∷
-    (goes_on 2 (0 ∷ []), gives.Done [], 7 ∷ 0 ∷ []) ∷
-    (goes_on 1 (1 ∷ 7 ∷ []), gives.Done [], 7 ∷ 0 ∷ []) ∷
-    (goes_on 0 (0 ∷ []), gives.Done [], 7 ∷ 0 ∷ []) ∷
     [])
 messages_go_up_in_the_order_of_decisions = refl
 

@@ -89,12 +89,13 @@ stack = record {
       [];
 }
 
--- calls one within another, several at once and later ones; each refusal, a cut, messages, changes that are asked for, and one that is made
+-- calls one within another, several at once and later ones; each refusal, cuts, messages, changes that are asked for, and one that is made
 abbrev pub computations : Script
 computations = record stack {
   nodes = 2;
   ticks = 2;
   does =
+      record { tick = 2; node = node 0; cause = causes.Event (event 4); args = 1 ∷ [] } ∷
       record { tick = 1; node = node 0; cause = causes.Event (event 2); args = 5 ∷ [] } ∷
       record { tick = 1; node = node 0; cause = causes.Event (event 6); args = 3 ∷ [] } ∷
       record { tick = 1; node = node 1; cause = causes.Event (event 7); args = 3 ∷ [] } ∷
@@ -107,7 +108,6 @@ computations = record stack {
       record { tick = 1; node = node 0; cause = causes.Event (event 12); args = 2 ∷ [] } ∷
       record { tick = 1; node = node 0; cause = causes.Event (event 14); args = 4 ∷ [] } ∷
       record { tick = 1; node = node 0; cause = causes.Event (event 13); args = 6 ∷ [] } ∷
-      record { tick = 2; node = node 0; cause = causes.Event (event 4); args = 1 ∷ [] } ∷
       record { tick = 2; node = node 0; cause = causes.Change (change 0); args = 3 ∷ [] } ∷
       record { tick = 2; node = node 0; cause = causes.Event (event 4); args = 2 ∷ [] } ∷
       record { tick = 2; node = node 1; cause = causes.Event (event 4); args = 4 ∷ [] } ∷
