@@ -30,6 +30,7 @@ _EVENTS = [
     ("astray", "route", "a.ask_b"), ("later", "all", "a.later"), ("three", "all", "a.add b.add c.tell"),
     ("send", "only_a", "a.send"),
     ("ask", "only_a", "a.ask"), ("loop_later", "two_units", "a.loop_later"),
+    ("twice_a", "twice_b", "a.add a.send"), ("a_and_b", "twice_b", "a.add b.add"),
 ]
 
 
@@ -68,8 +69,8 @@ def script_of(tree):
 HANDLER = "Rattle.samoa_model.specs.declared.handler"
 RECORD = "Rattle.samoa_model.specs.declared.record"
 SERIAL = "Rattle.samoa_serial.specs"
-LINES = ("ext_text", "accepted_text", "finished_text", "refusal_line", "waiting_text", "sent_text", "delivered_text",
-         "asked_text", "end_text", "state_text", "total_text")
+LINES = ("ext_text", "refusal_line", "delivered_text", "end_text", "state_text", "total_text")
+CALL_LINES = ("accepted_text", "finished_text", "waiting_text", "sent_text", "asked_text")
 COMPUTATIONS = ("comp_text", "comps_text", "node_text", "states_text")
 HISTORY = ("history", "history_to", "batch")
 TICKS = ("history_within", "is_limited_by", "is_limited_to", "admitted_by", "admitted_to")
@@ -98,7 +99,7 @@ IMPORTS = [
     (f"{SERIAL}.State", ["Registers"]),
     (f"{SERIAL}.Whole", ["Ran"]),
     (f"{SERIAL}.SerialRun", ["serial"]),
-    (f"{SERIAL}.Lines", LINES),
+    (f"{SERIAL}.Lines", [*LINES, *CALL_LINES]),
     (f"{SERIAL}.History", HISTORY),
     (f"{SERIAL}.Batch", ["batch_after"]),
     (f"{SERIAL}.Ticks", TICKS),
@@ -122,8 +123,9 @@ COMPUTATIONS_NOTE = ("calls one within another, several at once and later ones; 
                      "asked for, and one that is made")
 # What is sent and asked for comes to nobody, since no tick follows: what the script admits is its own items.
 COMPUTATIONS_SCRIPT = stack(
-    "%2 moving 1; tell 5; ask_b 3; @1 alone 3; outside 1; unbound; loop 1; loop_later 1; thrice 1; along 2; astray 2; three 4;"
-    "later 6; %2 change to_c 3; %2 moving 2; %2 @1 moving 4; %2 later 1; %2 @1 send 0 9; %2 send 7 8; %2 ask 1 2",
+    "%2 moving 1; tell 5; ask_b 3; @1 alone 3; outside 1; unbound; loop 1; loop_later 1; thrice 1; twice_a 1; a_and_b 2;"
+    "along 2; astray 2; three 4; later 6; %2 change to_c 3; %2 moving 2; %2 @1 moving 4; %2 later 1; %2 @1 send 0 9;"
+    "%2 send 7 8; %2 ask 1 2",
     nodes=2, ticks=2)
 
 
@@ -148,14 +150,14 @@ def seen(script, computation):
             f"  {computation.steps},\n)")
 
 
-def tables(script, run):
-    """The handlers that are bound to each event at each node at the end."""
-    out = [first_table(script) for _ in range(script.nodes)]
+def bindings(script, run, node):
+    """The handlers that are bound to each event at a node at the end."""
+    table = first_table(script)
     for computation in run.computations:
         what, number = computation.admission.cause
-        if what == "change":
-            out[computation.admission.node] = changed_table(script, out[computation.admission.node], number)
-    return out
+        if what == "change" and computation.admission.node == node:
+            table = changed_table(script, table, number)
+    return table
 
 
 def runs_file():
@@ -170,16 +172,17 @@ def runs_file():
         "-- what is admitted, in the order of the ticks: each whole, after those before\n"
         f"computations_run : map seen (serial computations (history computations)).comps ≡ {comps} ∷\n    []\n"
         f"{opened}\ncomputations_run = refl\n"]
-    for node, (boxes, table) in enumerate(zip(run.boxes, tables(script, run))):
+    for node, boxes in enumerate(run.boxes):
         states = terms.chain(f"Registers ({terms.words(box.show())})" for box in boxes)
-        bound = terms.chain(terms.argument(terms.handlers(own)) for own in table)
         positions = terms.words(range(len(boxes)))
         parts.append(
-            f"-- the states and the bindings that stand at the end at node {node}\n"
+            f"-- the states that stand at the end at node {node}\n"
             f"states_at_{node} : map ((serial computations (history computations)).states {node}) ({positions}) ≡ {states}\n"
-            f"{opened}\nstates_at_{node} = refl\n\n"
-            f"bindings_at_{node} : table_of computations (history computations) {node} ≡ {bound}\n"
-            f"{opened}\nbindings_at_{node} = refl\n")
+            f"{opened}\nstates_at_{node} = refl\n")
+    bound = terms.chain(terms.argument(terms.handlers(own)) for own in bindings(script, run, 0))
+    parts.append(
+        "-- what is bound to each event at the end at node 0, which made a change\n"
+        f"bindings_at_0 : table_of computations (history computations) 0 ≡ {bound}\n{opened}\nbindings_at_0 = refl\n")
     head = "Computations of a serial run, entry by entry, as the reference program runs them."
     return terms.file(head, "\n".join(parts), IMPORTS)
 
@@ -194,6 +197,7 @@ def lines(text):
 def reported(name, definition, opened, script, run, calls):
     """The lemma that a definition gives the report of a run."""
     text = lines(report(script, run, calls))
+    opened = " ".join([opened, *CALL_LINES]) if calls else opened
     return (f"{name} : {definition} {'true' if calls else 'false'} ≡ report_of_lines (\n{text})\n"
             f"unfolding {opened}\n{name} = refl\n")
 
@@ -267,12 +271,14 @@ FILES = {
 
 # ---- the group stack, whose parts samoa_laws has
 
+ALL_LINES = ("ext_text", "accepted_text", "finished_text", "refusal_line", "waiting_text", "sent_text", "delivered_text",
+             "asked_text", "end_text", "state_text", "total_text")
 GROUP_IMPORTS = [
     ("Rattle.std.specs.Prelude", ["◌≡◌", "false", "[]", "◌∷◌", "◌++◌", "refl", "codes"]),
     ("Rattle.std.specs.Fmt", ["digits"]),
     (f"{RECORD}.Cause", ["Cause"]),
     ("Rattle.samoa_model.specs.declared.script.Script", ["Script"]),
-    (f"{SERIAL}.Lines", LINES),
+    (f"{SERIAL}.Lines", ALL_LINES),
     (f"{SERIAL}.History", ["batch"]),
     (f"{SERIAL}.Batch", ["batch_after"]),
     (f"{SERIAL}.Ticks", TICKS),
@@ -292,8 +298,8 @@ def group_file():
         args=terms.words(item.arguments))])
     fields |= {"losses": "[]", "crashes": "[]"}
     text = "\n    ++ ".join(f'codes "{line}\\n"' for line in report(script, history(script), False).splitlines())
-    opened = ["digits", "report_to", "comps_text", "comp_text", "states_text", "node_text", "history_within", "is_limited_to",
-              "is_limited_by", "admitted_to", "admitted_by", "batch_after", "batch", "limit_text", *LINES]
+    opened = ["digits", "report_to", "comps_text", "comp_text", "states_text", "node_text", "history_within",
+              "is_limited_to", "is_limited_by", "admitted_to", "admitted_by", "batch_after", "batch", "limit_text", *ALL_LINES]
     body = (f"abbrev one_cast : Script\none_cast = {terms.record(fields)}\n\n"
             f"one_cast_reported : report_in_full one_cast false ≡\n    {text}\nunfolding {' '.join(opened)}\n"
             "one_cast_reported = refl\n")

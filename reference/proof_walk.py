@@ -186,8 +186,10 @@ MICRO_ROWS = [
     without(LINK, "name"), {**LINK, "name": "L"}, {**LINK, "form": "set"}, [LINK],
     "lists with a limit",
     {**LINK, "nums": [2 ** 64 - 1] * 12}, {**LINK, "nums": [0] * 13}, {**LINK, "nums": [other("-1")]}, {**LINK, "nums": 1},
+    {**LINK, "nums": []},
     {**LINK, "ports": ["e"] * 16}, {**LINK, "ports": ["e"] * 17}, {**LINK, "ports": [1] * 17}, {**LINK, "ports": "e"},
     {**LINK, "changes": ["c"] * 16}, {**LINK, "changes": ["c"] * 17}, {**LINK, "changes": ["c", ""]},
+    {**LINK, "changes": []},
     "the first key of the table that has a fault tells it",
     {"ports": 1, "nums": 1, "changes": 1, "kind": "link", "name": "l"},
     {"ports": 1, "changes": 1, "kind": "link", "name": "l"},
@@ -196,7 +198,7 @@ MICRO_ROWS = [
 
 DECL_ROWS = [
     SET, BOUND, ROUTE, "the form, and the keys of each",
-    without(SET, "form"), {**SET, "form": "sets"}, {**SET, "form": 1}, {**SET, "bounds": []}, {**BOUND, "edges": []},
+    without(SET, "form"), {**SET, "form": "sets"}, {**SET, "form": []}, {**SET, "bounds": []}, {**BOUND, "edges": []},
     {**ROUTE, "micros": []}, {"name": "d", "form": "x", "micros": [], "bounds": [], "roots": [], "edges": []},
     {"name": "d", "micros": [], "bounds": [], "roots": [], "edges": []}, {**SET, "other": 1},
     "the name and the budget",
@@ -211,9 +213,10 @@ DECL_ROWS = [
     "a route",
     without(ROUTE, "roots"), {**ROUTE, "roots": []}, {**ROUTE, "roots": ["a.h"] * 32}, {**ROUTE, "roots": ["a.h"] * 33},
     {**ROUTE, "roots": ["a"]}, {**ROUTE, "roots": ["a.h.h"]}, {**ROUTE, "roots": ["a."]}, {**ROUTE, "roots": [".h"]},
+    {**ROUTE, "roots": [1]},
     without(ROUTE, "edges"), {**ROUTE, "edges": [["a.h", "a.g"]] * 256}, {**ROUTE, "edges": [["a.h", "a.g"]] * 257},
     {**ROUTE, "edges": [["a.h"]]}, {**ROUTE, "edges": [["a.h", "a.g", "a.g"]]}, {**ROUTE, "edges": [["a.h", "g"]]},
-    {**ROUTE, "edges": [["h", "a.g"]]}, {**ROUTE, "edges": {}},
+    {**ROUTE, "edges": [["h", "a.g"]]}, {**ROUTE, "edges": {}}, {**ROUTE, "edges": [1]},
 ]
 
 BOUND_ROWS = [
@@ -245,7 +248,7 @@ ITEM_ROWS = [
     {**ITEM, "event": 1}, {"tick": 1, "node": 0, "change": 1}, "ticks begin at 1, nodes at 0",
     without(ITEM, "tick"), {**ITEM, "tick": 0}, {**ITEM, "tick": 2 ** 64 - 1}, without(ITEM, "node"), {**ITEM, "node": "0"},
     {**ITEM, "node": 2 ** 64 - 1}, "arguments", {**ITEM, "args": [1] * 12}, {**ITEM, "args": [1] * 13},
-    {**ITEM, "args": ["1"]},
+    {**ITEM, "args": ["1"]}, {**ITEM, "args": []},
     {**ITEM, "arg": 1},
 ]
 
@@ -283,12 +286,13 @@ INSTRUCTIONS = [
     ["copy", "r9", "r2"], ["add", "r3", "x0"], ["add", "r3", 1], ["sub", "x2", "r1"], ["sub", 1, "r1"],
     ["less", "x0", "x1", 1], ["less", "r0", "r1", 31], ["less", "r0", "r1", 0], ["less", "r0", "r1", 32],
     ["less", "r0", "r1"],
-    ["less", "r0", 1, 1], ["less", 1, "r0", 1], ["call", 15, 4], ["call", 0, 5], ["call", "x0", 1], ["call", 0],
+    ["less", "r0", 1, 1], ["less", 1, "r0", 1], ["less", "r0", "r1", "1"], ["call", 15, 4], ["call", 0, 5],
+    ["call", "x0", 1], ["call", 0],
     ["later", 1, 0],
     ["later", 1, 5], ["later", "x0", 0], ["send", "x3", 2, 4], ["send", "x3", 2, 5], ["send", 3, 2, 4],
     ["send", "x3", "2", 4],
     ["send", "x3", 2], ["deliver", 4], ["deliver", 5], ["deliver", "x0"], ["deliver"], ["change", 0, 3], ["change", 0, 5],
-    ["change", "x0", 3], ["done", 0], ["done", 5], ["done", 1, 1], ["done"], ["stop", 1], ["Done", 1], [1, 1], [], {},
+    ["change", "x0", 3], ["done", 0], ["done", 5], ["done", 1, 1], ["done"], ["stop", 1], ["Done", 1], [1, 1], [[]], [], {},
     "done",
     ["done", json_text.OtherValue("-1")], ["call", 0, 0, 0, 0],
 ]

@@ -36,6 +36,7 @@ instructions_and_what_is_none : Reads (
     (arr (str "less" ∷ str "r0" ∷ str "r1" ∷ []), None) ∷
     (arr (str "less" ∷ str "r0" ∷ num 1 ∷ num 1 ∷ []), None) ∷
     (arr (str "less" ∷ num 1 ∷ str "r0" ∷ num 1 ∷ []), None) ∷
+    (arr (str "less" ∷ str "r0" ∷ str "r1" ∷ str "1" ∷ []), None) ∷
     (arr (str "call" ∷ num 15 ∷ num 4 ∷ []), Some (instr.Call 15 4)) ∷
     (arr (str "call" ∷ num 0 ∷ num 5 ∷ []), None) ∷
     (arr (str "call" ∷ str "x0" ∷ num 1 ∷ []), None) ∷
@@ -62,6 +63,7 @@ instructions_and_what_is_none : Reads (
     (arr (str "stop" ∷ num 1 ∷ []), None) ∷
     (arr (str "Done" ∷ num 1 ∷ []), None) ∷
     (arr (num 1 ∷ num 1 ∷ []), None) ∷
+    (arr (arr [] ∷ []), None) ∷
     (arr [], None) ∷
     (obj [], None) ∷
     (str "done", None) ∷

@@ -72,6 +72,7 @@ faults_of_microprotocols : Answers (micro_fault (codes "micros")) (
     (but micro_l "nums" (arr (times 13 (num 0))), over "nums" 12) ∷
     (but micro_l "nums" (arr (number (negative (negsuc 0)) ∷ [])), wrong "nums") ∷
     (but micro_l "nums" (num 1), wrong "nums") ∷
+    (but micro_l "nums" (arr []), None) ∷
     (but micro_l "ports" (arr (times 16 (str "e"))), None) ∷
     (but micro_l "ports" (arr (times 17 (str "e"))), over "ports" 16) ∷
     (but micro_l "ports" (arr (times 17 (num 1))), wrong "ports") ∷
@@ -79,6 +80,7 @@ faults_of_microprotocols : Answers (micro_fault (codes "micros")) (
     (but micro_l "changes" (arr (times 16 (str "c"))), None) ∷
     (but micro_l "changes" (arr (times 17 (str "c"))), over "changes" 16) ∷
     (but micro_l "changes" (arr (str "c" ∷ str "" ∷ [])), wrong "changes") ∷
+    (but micro_l "changes" (arr []), None) ∷
     -- the first key of the table that has a fault tells it
     (but (but (but micro_l "ports" (num 1)) "nums" (num 1)) "changes" (num 1), wrong "nums") ∷
     (but (but micro_l "ports" (num 1)) "changes" (num 1), wrong "ports") ∷
@@ -111,7 +113,7 @@ faults_of_declarations : Answers (decl_fault (codes "decls")) (
     -- the form, and the keys of each
     (without set_s "form", missing "form") ∷
     (but set_s "form" (str "sets"), wrong "form") ∷
-    (but set_s "form" (num 1), wrong "form") ∷
+    (but set_s "form" (arr []), wrong "form") ∷
     (but set_s "bounds" (arr []), wrong "decls") ∷
     (but bound_b "edges" (arr []), wrong "decls") ∷
     (but route_r "micros" (arr []), wrong "decls") ∷
@@ -148,6 +150,7 @@ faults_of_declarations : Answers (decl_fault (codes "decls")) (
     (but route_r "roots" (arr (str "a.h.h" ∷ [])), wrong "roots") ∷
     (but route_r "roots" (arr (str "a." ∷ [])), wrong "roots") ∷
     (but route_r "roots" (arr (str ".h" ∷ [])), wrong "roots") ∷
+    (but route_r "roots" (arr (num 1 ∷ [])), wrong "roots") ∷
     (without route_r "edges", None) ∷
     (but route_r "edges" (arr (times 256 (arr (str "a.h" ∷ str "a.g" ∷ [])))), None) ∷
     (but route_r "edges" (arr (times 257 (arr (str "a.h" ∷ str "a.g" ∷ [])))), over "edges" 256) ∷
@@ -156,6 +159,7 @@ faults_of_declarations : Answers (decl_fault (codes "decls")) (
     (but route_r "edges" (arr (arr (str "a.h" ∷ str "g" ∷ []) ∷ [])), wrong "edges") ∷
     (but route_r "edges" (arr (arr (str "h" ∷ str "a.g" ∷ []) ∷ [])), wrong "edges") ∷
     (but route_r "edges" (obj []), wrong "edges") ∷
+    (but route_r "edges" (arr (num 1 ∷ [])), wrong "edges") ∷
     [])
 unfolding decl_fault bound_fault
 faults_of_declarations = refl
@@ -229,6 +233,7 @@ faults_of_items : Answers (do_fault (codes "do")) (
     (but item_e "args" (arr (times 12 (num 1))), None) ∷
     (but item_e "args" (arr (times 13 (num 1))), over "args" 12) ∷
     (but item_e "args" (arr (str "1" ∷ [])), wrong "args") ∷
+    (but item_e "args" (arr []), None) ∷
     (but item_e "arg" (num 1), wrong "do") ∷
     [])
 unfolding do_fault

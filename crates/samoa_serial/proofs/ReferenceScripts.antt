@@ -82,6 +82,8 @@ stack = record {
       record { name = codes "send"; decl = 0; handlers = handler 0 5 ∷ [] } ∷
       record { name = codes "ask"; decl = 0; handlers = handler 0 7 ∷ [] } ∷
       record { name = codes "loop_later"; decl = 2; handlers = handler 0 8 ∷ [] } ∷
+      record { name = codes "twice_a"; decl = 3; handlers = handler 0 0 ∷ handler 0 5 ∷ [] } ∷
+      record { name = codes "a_and_b"; decl = 3; handlers = handler 0 0 ∷ handler 1 0 ∷ [] } ∷
       [];
   changes =
       record { name = codes "to_c"; event = event 1; table = record { event = event 4; handlers = handler 2 0 ∷ [] } ∷ [] } ∷
@@ -104,6 +106,8 @@ computations = record stack {
       record { tick = 1; node = node 0; cause = causes.Event (event 3); args = 1 ∷ [] } ∷
       record { tick = 1; node = node 0; cause = causes.Event (event 17); args = 1 ∷ [] } ∷
       record { tick = 1; node = node 0; cause = causes.Event (event 10); args = 1 ∷ [] } ∷
+      record { tick = 1; node = node 0; cause = causes.Event (event 18); args = 1 ∷ [] } ∷
+      record { tick = 1; node = node 0; cause = causes.Event (event 19); args = 2 ∷ [] } ∷
       record { tick = 1; node = node 0; cause = causes.Event (event 11); args = 2 ∷ [] } ∷
       record { tick = 1; node = node 0; cause = causes.Event (event 12); args = 2 ∷ [] } ∷
       record { tick = 1; node = node 0; cause = causes.Event (event 14); args = 4 ∷ [] } ∷
