@@ -27,17 +27,23 @@ PLAIN = {
 PARTS = {
     "handler_h": CODE, "handler_g": CODE_G, "micro_a": PROG, "micro_l": LINK, "set_s": SET, "bound_of_a": BOUND_ITEM,
     "bound_b": BOUND, "route_r": ROUTE, "event_e": EVENT, "row_e": ROW, "change_c": CHANGE, "item_e": ITEM,
-    "loss_of_all": LOSS,
-    "crash_of_1": CRASH, "plain": PLAIN, }
+    "loss_of_all": LOSS, "crash_of_1": CRASH, "plain": PLAIN,
+}
 
+# By the sort of an object: the key under which its list stands, the definition that tests it, and what tests it in script.py.
 OBJECTS = {
-    "code": ("handlers", "code_fault", "handler"), "micro": ("micros", "micro_fault", "micro"),
-    "bound": ("bounds", "bound_fault", "bound"), "decl": ("decls", "decl_fault", "declaration"),
-    "event": ("events", "event_fault", "event"), "table": ("table", "table_fault", "row"),
-    "change": ("changes", "change_fault", "change"), "do": ("do", "do_fault", "item"),
+    "code": ("handlers", "code_fault", "handler"),
+    "micro": ("micros", "micro_fault", "micro"),
+    "bound": ("bounds", "bound_fault", "bound"),
+    "decl": ("decls", "decl_fault", "declaration"),
+    "event": ("events", "event_fault", "event"),
+    "table": ("table", "table_fault", "row"),
+    "change": ("changes", "change_fault", "change"),
+    "do": ("do", "do_fault", "item"),
     "loss": ("lose", "loss_fault", "loss"),
     "crash": ("crash", "crash_fault", "crash"),
 }
+# What has to be opened for the proof of each, where that isn't the definition alone.
 OPENED = {"micro_fault": "micro_fault code_fault instr_in", "code_fault": "code_fault instr_in",
           "decl_fault": "decl_fault bound_fault", "change_fault": "change_fault table_fault"}
 FAULTS = ("micro_fault", "code_fault", "bound_fault", "decl_fault", "event_fault", "table_fault", "change_fault", "do_fault",
@@ -192,8 +198,7 @@ MICRO_ROWS = [
     {**LINK, "changes": []},
     "the first key of the table that has a fault tells it",
     {"ports": 1, "nums": 1, "changes": 1, "kind": "link", "name": "l"},
-    {"ports": 1, "changes": 1, "kind": "link", "name": "l"},
-    {"kind": 1, "name": 1},
+    {"ports": 1, "changes": 1, "kind": "link", "name": "l"}, {"kind": 1, "name": 1},
 ]
 
 DECL_ROWS = [
@@ -248,8 +253,7 @@ ITEM_ROWS = [
     {**ITEM, "event": 1}, {"tick": 1, "node": 0, "change": 1}, "ticks begin at 1, nodes at 0",
     without(ITEM, "tick"), {**ITEM, "tick": 0}, {**ITEM, "tick": 2 ** 64 - 1}, without(ITEM, "node"), {**ITEM, "node": "0"},
     {**ITEM, "node": 2 ** 64 - 1}, "arguments", {**ITEM, "args": [1] * 12}, {**ITEM, "args": [1] * 13},
-    {**ITEM, "args": ["1"]}, {**ITEM, "args": []},
-    {**ITEM, "arg": 1},
+    {**ITEM, "args": ["1"]}, {**ITEM, "args": []}, {**ITEM, "arg": 1},
 ]
 
 LOSS_ROWS = [LOSS, *(without(LOSS, key) for key in LOSS), *({**LOSS, key: "1"} for key in LOSS), {**LOSS, "node": 0}]
@@ -282,19 +286,19 @@ def objects_file():
 
 INSTRUCTIONS = [
     ["set", "r0", 7], ["set", "x3", 2 ** 64 - 1], ["set", "r4", 1], ["set", "y0", 1], ["set", "r", 1], ["set", "r00", 1],
-    ["set", 0, 1], ["set", "r0", "1"], ["set", "r0"], ["set", "r0", 1, 1], ["copy", "x1", "r2"], ["copy", "x1", 1],
-    ["copy", "r9", "r2"], ["add", "r3", "x0"], ["add", "r3", 1], ["sub", "x2", "r1"], ["sub", 1, "r1"],
+    ["set", 0, 1], ["set", "r0", "1"], ["set", "r0"], ["set", "r0", 1, 1],
+    ["copy", "x1", "r2"], ["copy", "x1", 1], ["copy", "r9", "r2"], ["add", "r3", "x0"], ["add", "r3", 1],
+    ["sub", "x2", "r1"], ["sub", 1, "r1"],
     ["less", "x0", "x1", 1], ["less", "r0", "r1", 31], ["less", "r0", "r1", 0], ["less", "r0", "r1", 32],
-    ["less", "r0", "r1"],
-    ["less", "r0", 1, 1], ["less", 1, "r0", 1], ["less", "r0", "r1", "1"], ["call", 15, 4], ["call", 0, 5],
-    ["call", "x0", 1], ["call", 0],
-    ["later", 1, 0],
-    ["later", 1, 5], ["later", "x0", 0], ["send", "x3", 2, 4], ["send", "x3", 2, 5], ["send", 3, 2, 4],
-    ["send", "x3", "2", 4],
-    ["send", "x3", 2], ["deliver", 4], ["deliver", 5], ["deliver", "x0"], ["deliver"], ["change", 0, 3], ["change", 0, 5],
-    ["change", "x0", 3], ["done", 0], ["done", 5], ["done", 1, 1], ["done"], ["stop", 1], ["Done", 1], [1, 1], [[]], [], {},
-    "done",
-    ["done", json_text.OtherValue("-1")], ["call", 0, 0, 0, 0],
+    ["less", "r0", "r1"], ["less", "r0", 1, 1], ["less", 1, "r0", 1], ["less", "r0", "r1", "1"],
+    ["call", 15, 4], ["call", 0, 5], ["call", "x0", 1], ["call", 0],
+    ["later", 1, 0], ["later", 1, 5], ["later", "x0", 0],
+    ["send", "x3", 2, 4], ["send", "x3", 2, 5], ["send", 3, 2, 4], ["send", "x3", "2", 4], ["send", "x3", 2],
+    ["deliver", 4], ["deliver", 5], ["deliver", "x0"], ["deliver"], ["change", 0, 3], ["change", 0, 5], ["change", "x0", 3],
+    ["done", 0], ["done", 5], ["done", 1, 1], ["done"],
+    ["stop", 1], ["Done", 1], [1, 1], [[]], [], {}, "done",
+    ["done", other("-1")],
+    ["call", 0, 0, 0, 0],
 ]
 
 
