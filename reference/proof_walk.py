@@ -72,6 +72,7 @@ IMPORTS = [
     ("Rattle.samoa_grammar.specs.Passes", PASSES),
     ("Rattle.samoa_grammar.specs.Meaning", ["script_of", *MEANT]),
     ("Rattle.samoa_grammar.proofs.ReferenceParts", list(PARTS)),
+    ("Rattle.samoa_grammar.proofs.RouteFaults", ["route_fault", "route_fault_is"]),
     ("Rattle.samoa_grammar.proofs.ReferenceTrees",
      ["event", "change", "handler", "node", "str", "num", "arr", "obj", "but", "without", "times", "missing", "wrong",
       "unknown", "twice", "over", "Answers"]),
@@ -397,8 +398,6 @@ def in_code(*instruction):
     return micros({**PROG, "handlers": [CODE, {**CODE_G, "code": [["done", 0], list(instruction)]}]}, LINK)
 
 
-# That a route has 32 handlers at most isn't among them: the prover would take both branches of each test for a handler that
-# stood before, 2^33 steps.
 PORT_ROWS = [
     *(micros(of_kind(kind, least - 1)) for kind, least in script.LEAST_PORTS.items() if least),
     *(micros(of_kind(kind, least)) for kind, least in script.LEAST_PORTS.items() if least), micros({**PROG, "ports": []}),
@@ -437,6 +436,35 @@ def totals_file():
             ("first_group_that_has_a_fault", "faults of two groups of tests, of which the first group tells its own", 2,
              ORDER_ROWS, ["item_e", "loss_of_all", "crash_of_1", *SCRIPT_PARTS])]
     return terms.file(head, tables(rows, pass_table), IMPORTS)
+
+
+# ---- routes of many handlers
+
+WIDE = {"name": "w", "kind": "prog", "handlers": [{**CODE, "name": letter} for letter in "abcdefghijklmnop"]}
+THREE_WIDE = {**PLAIN, "micros": [{**WIDE, "name": name} for name in "wxy"]}
+ROUTE_OF_32 = {"name": "r", "form": "route", "roots": [],
+               "edges": [[f"w.{letter}", f"x.{letter}"] for letter in "abcdefghijklmnop"]}
+
+
+def route_lemma(name, roots):
+    """The lemma on the fault of that route with other roots."""
+    route = {**ROUTE_OF_32, "roots": roots}
+    found = fault_of(lambda: script.totals_pass(script.FormPass().top({**THREE_WIDE, "decls": [route]})))
+    term = terms.argument(terms.tree(route, {"route_of_32": ROUTE_OF_32}))
+    opened = " ".join(["draft_of", *DRAFTS, "instr_in"])
+    return (f"{name} : route_fault three_wide {term} ≡ {terms.fault(found)}\nunfolding {opened}\n"
+            f"{name} = route_fault_is three_wide {term} refl refl\n")
+
+
+def routes_file():
+    known = {"handler_h": CODE, "plain": PLAIN}
+    out = []
+    for name, part in (("wide_w", WIDE), ("three_wide", THREE_WIDE), ("route_of_32", ROUTE_OF_32)):
+        out.append(f"abbrev {name} : Data\n{name} = {terms.tree(part, known)}\n")
+        known[name] = part
+    out += [route_lemma("a_route_of_32_handlers", []), route_lemma("a_route_of_33_handlers", ["y.a"])]
+    head = "How many handlers a route may have, as the reference program tells it."
+    return terms.file(head, "\n".join(out), IMPORTS)
 
 
 # ---- whole scripts
@@ -552,5 +580,6 @@ def meaning_file():
 FILES = {
     "ReferenceParts": parts_file,
     "ReferenceObjects": objects_file, "ReferenceInstructions": instructions_file, "ReferenceNames": names_file,
-    "ReferenceTotals": totals_file, "ReferenceWalk": walk_file, "ReferenceMeaning": meaning_file,
+    "ReferenceTotals": totals_file, "ReferenceRoutes": routes_file, "ReferenceWalk": walk_file,
+    "ReferenceMeaning": meaning_file,
 }

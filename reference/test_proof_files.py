@@ -55,10 +55,9 @@ def write_all():
         maker()
 
 
-# What no definition of these files speaks of: the bytes of a script, its canonical text and its cells; and a route of more
-# than 32 handlers, which takes the prover too long.
+# What no definition of these files speaks of: the bytes of a script, its canonical text and its cells.
 NOT_RUN = {
-    "script": ['raise over("edges", 32)', 'raise Fault("TooLong")', "except json_text.NotJson:",
+    "script": ['raise Fault("TooLong")', "except json_text.NotJson:",
                'raise Fault("NotJson") from None',
                "return json_text.compact(script.tree)",
                "return max(cells_of_budget(declaration.budget) for declaration in script.declarations)",

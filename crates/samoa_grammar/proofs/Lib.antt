@@ -8,6 +8,8 @@ mod ReferenceMeaning
 mod ReferenceNames
 mod ReferenceObjects
 pub mod ReferenceParts
+mod ReferenceRoutes
 mod ReferenceTotals
 pub mod ReferenceTrees
 mod ReferenceWalk
+pub mod RouteFaults
