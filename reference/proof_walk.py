@@ -525,7 +525,8 @@ EVERY_CODE = [
     ["call", 1, 2],
     ["later", 0, 0], ["send", "x3", 1, 4], ["deliver", 3], ["change", 1, 1], ["done", 1],
 ]
-EVERY_KIND = [{"name": f"k_{kind}", "kind": kind, "ports": ["f", "e", "f"]} for kind in script.KINDS[2:]]
+EVERY_KIND = [{"name": f"k_{kind}", "kind": kind, "ports": ["f", "e", "f"][:script.LEAST_PORTS[kind]]}
+              for kind in script.KINDS[2:]]
 # Something of each sort, with names that are used before they are defined, and with repeats in the route.
 EVERYTHING = {
     "version": 1, "nodes": 2, "ticks": 3,

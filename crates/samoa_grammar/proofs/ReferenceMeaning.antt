@@ -17,13 +17,13 @@ abbrev everything_micros : List Data
 everything_micros =
     obj (("name", str "a") ∷ ("kind", str "prog") ∷ ("nums", arr (num 5 ∷ num 6 ∷ [])) ∷ ("ports", arr (str "e" ∷ str "f" ∷ [])) ∷ ("changes", arr (str "d" ∷ str "c" ∷ [])) ∷ ("handlers", arr (obj (("name", str "h") ∷ ("code", arr (arr (str "set" ∷ str "r0" ∷ num 7 ∷ []) ∷ arr (str "copy" ∷ str "x1" ∷ str "r0" ∷ []) ∷ arr (str "add" ∷ str "r2" ∷ str "x0" ∷ []) ∷ arr (str "sub" ∷ str "r3" ∷ str "x1" ∷ []) ∷ arr (str "less" ∷ str "x0" ∷ str "x1" ∷ num 2 ∷ []) ∷ arr (str "call" ∷ num 1 ∷ num 2 ∷ []) ∷ arr (str "later" ∷ num 0 ∷ num 0 ∷ []) ∷ arr (str "send" ∷ str "x3" ∷ num 1 ∷ num 4 ∷ []) ∷ arr (str "deliver" ∷ num 3 ∷ []) ∷ arr (str "change" ∷ num 1 ∷ num 1 ∷ []) ∷ arr (str "done" ∷ num 1 ∷ []) ∷ [])) ∷ []) ∷ obj (("name", str "g") ∷ ("code", arr []) ∷ []) ∷ [])) ∷ []) ∷
     obj (("name", str "l") ∷ ("kind", str "link") ∷ ("ports", arr (str "f" ∷ [])) ∷ []) ∷
-    obj (("name", str "k_fd") ∷ ("kind", str "fd") ∷ ("ports", arr (str "f" ∷ str "e" ∷ str "f" ∷ [])) ∷ []) ∷
-    obj (("name", str "k_rbcast") ∷ ("kind", str "rbcast") ∷ ("ports", arr (str "f" ∷ str "e" ∷ str "f" ∷ [])) ∷ []) ∷
+    obj (("name", str "k_fd") ∷ ("kind", str "fd") ∷ ("ports", arr (str "f" ∷ str "e" ∷ [])) ∷ []) ∷
+    obj (("name", str "k_rbcast") ∷ ("kind", str "rbcast") ∷ ("ports", arr (str "f" ∷ str "e" ∷ [])) ∷ []) ∷
     obj (("name", str "k_cons") ∷ ("kind", str "cons") ∷ ("ports", arr (str "f" ∷ str "e" ∷ str "f" ∷ [])) ∷ []) ∷
     obj (("name", str "k_abcast") ∷ ("kind", str "abcast") ∷ ("ports", arr (str "f" ∷ str "e" ∷ str "f" ∷ [])) ∷ []) ∷
-    obj (("name", str "k_seqcast") ∷ ("kind", str "seqcast") ∷ ("ports", arr (str "f" ∷ str "e" ∷ str "f" ∷ [])) ∷ []) ∷
-    obj (("name", str "k_repl") ∷ ("kind", str "repl") ∷ ("ports", arr (str "f" ∷ str "e" ∷ str "f" ∷ [])) ∷ []) ∷
-    obj (("name", str "k_views") ∷ ("kind", str "views") ∷ ("ports", arr (str "f" ∷ str "e" ∷ str "f" ∷ [])) ∷ []) ∷
+    obj (("name", str "k_seqcast") ∷ ("kind", str "seqcast") ∷ ("ports", arr (str "f" ∷ str "e" ∷ [])) ∷ []) ∷
+    obj (("name", str "k_repl") ∷ ("kind", str "repl") ∷ ("ports", arr (str "f" ∷ str "e" ∷ [])) ∷ []) ∷
+    obj (("name", str "k_views") ∷ ("kind", str "views") ∷ ("ports", arr (str "f" ∷ [])) ∷ []) ∷
     []
 
 abbrev everything_decls : List Data
@@ -91,7 +91,7 @@ everything_meant : script_meant everything ≡ record {
         name = codes "k_fd";
         kind = kinds.Fd;
         nums = [];
-        ports = event 1 ∷ event 0 ∷ event 1 ∷ [];
+        ports = event 1 ∷ event 0 ∷ [];
         changes = [];
         handlers = [];
       } ∷
@@ -99,7 +99,7 @@ everything_meant : script_meant everything ≡ record {
         name = codes "k_rbcast";
         kind = kinds.Rbcast;
         nums = [];
-        ports = event 1 ∷ event 0 ∷ event 1 ∷ [];
+        ports = event 1 ∷ event 0 ∷ [];
         changes = [];
         handlers = [];
       } ∷
@@ -123,7 +123,7 @@ everything_meant : script_meant everything ≡ record {
         name = codes "k_seqcast";
         kind = kinds.Seqcast;
         nums = [];
-        ports = event 1 ∷ event 0 ∷ event 1 ∷ [];
+        ports = event 1 ∷ event 0 ∷ [];
         changes = [];
         handlers = [];
       } ∷
@@ -131,7 +131,7 @@ everything_meant : script_meant everything ≡ record {
         name = codes "k_repl";
         kind = kinds.Repl;
         nums = [];
-        ports = event 1 ∷ event 0 ∷ event 1 ∷ [];
+        ports = event 1 ∷ event 0 ∷ [];
         changes = [];
         handlers = [];
       } ∷
@@ -139,7 +139,7 @@ everything_meant : script_meant everything ≡ record {
         name = codes "k_views";
         kind = kinds.Views;
         nums = [];
-        ports = event 1 ∷ event 0 ∷ event 1 ∷ [];
+        ports = event 1 ∷ [];
         changes = [];
         handlers = [];
       } ∷
