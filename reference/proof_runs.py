@@ -30,7 +30,7 @@ _EVENTS = [
     ("astray", "route", "a.ask_b"), ("later", "all", "a.later"), ("three", "all", "a.add b.add c.tell"),
     ("send", "only_a", "a.send"),
     ("ask", "only_a", "a.ask"), ("loop_later", "two_units", "a.loop_later"),
-    ("twice_a", "twice_b", "a.add a.send"), ("a_and_b", "twice_b", "a.add b.add"),
+    ("twice_a", "twice_b", "a.send a.add"), ("a_and_b", "twice_b", "a.add b.add"),
 ]
 
 

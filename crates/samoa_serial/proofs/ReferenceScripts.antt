@@ -82,7 +82,7 @@ stack = record {
       record { name = codes "send"; decl = 0; handlers = handler 0 5 ∷ [] } ∷
       record { name = codes "ask"; decl = 0; handlers = handler 0 7 ∷ [] } ∷
       record { name = codes "loop_later"; decl = 2; handlers = handler 0 8 ∷ [] } ∷
-      record { name = codes "twice_a"; decl = 3; handlers = handler 0 0 ∷ handler 0 5 ∷ [] } ∷
+      record { name = codes "twice_a"; decl = 3; handlers = handler 0 5 ∷ handler 0 0 ∷ [] } ∷
       record { name = codes "a_and_b"; decl = 3; handlers = handler 0 0 ∷ handler 1 0 ∷ [] } ∷
       [];
   changes =
