@@ -198,10 +198,6 @@ SKIPPED = Scenario(
 
 # ---- replacement
 
-def at_epoch(epoch, message):
-    return (epoch, *message[1:])
-
-
 DELIVERING = Scenario(
     "the_layer_delivers_its_epoch", "replacement: casts, and deliveries of one epoch", "repl", [
     "a message, a view, a change that there is, and casts that aren't taken",

@@ -206,10 +206,6 @@ def happening_fields(script):
     }
 
 
-def admission(own):
-    return short_record(node=f"node {own.node}", tick=own.tick, cause=_cause(*own.cause), args=words(own.arguments))
-
-
 # ---- moments and outcomes
 
 def setup(script, micro, node):
