@@ -297,9 +297,7 @@ INSTRUCTIONS = [
     ["send", "x3", 2, 4], ["send", "x3", 2, 5], ["send", 3, 2, 4], ["send", "x3", "2", 4], ["send", "x3", 2],
     ["deliver", 4], ["deliver", 5], ["deliver", "x0"], ["deliver"], ["change", 0, 3], ["change", 0, 5], ["change", "x0", 3],
     ["done", 0], ["done", 5], ["done", 1, 1], ["done"],
-    ["stop", 1], ["Done", 1], [1, 1], [[]], [], {}, "done",
-    ["done", other("-1")],
-    ["call", 0, 0, 0, 0],
+    ["stop", 1], ["Done", 1], [1, 1], [[]], [], {}, "done", 5, ["done", other("-1")], ["call", 0, 0, 0, 0],
 ]
 
 

@@ -67,6 +67,7 @@ instructions_and_what_is_none : Reads (
     (arr [], None) ∷
     (obj [], None) ∷
     (str "done", None) ∷
+    (num 5, None) ∷
     (arr (str "done" ∷ number (negative (negsuc 0)) ∷ []), None) ∷
     (arr (str "call" ∷ num 0 ∷ num 0 ∷ num 0 ∷ num 0 ∷ []), None) ∷
     [])
