@@ -1,12 +1,13 @@
 //! The laws of the model, computations numbered from 0.
-ghost use Rattle.std.specs.Prelude.{◌≡◌, ℕ, ◌<◌, ◌≤◌, ◌⊎◌, List, length, slice_get, Some, None, true, false};
+ghost use Rattle.std.specs.Prelude.{◌≡◌, ℕ, ◌<◌, ◌≤◌, ◌⊎◌, ◌↔◌, List, length, slice_get, Some, None, true, false};
 ghost use Rattle.samoa_model.specs.declared.record.Ext.{Ext};
 ghost use Rattle.samoa_model.specs.declared.script.Script.{Script};
 ghost use Rattle.samoa_model.specs.Allowed.{weight};
 ghost use Rattle.samoa_serial.specs.SerialRun.{serial};
 ghost use Rattle.samoa_invariant.specs.Play.{Agree, Never, Play, attempts, is_bound, stood};
 ghost use Rattle.samoa_invariant.specs.Within.{IsWithin};
-ghost use Rattle.samoa_invariant.specs.State.{AllEnded, CanRelease, Core, GoesOnTo, IsEnabled, IsForward, NothingOut, Reached, Step, WholeRun, cells_to, left, made_by};
+ghost use Rattle.samoa_invariant.specs.State.{AllEnded, CanRelease, Core, GoesOnTo, HasTurn, IsEnabled, IsForward, NothingOut, Reached, Step, WholeRun, cells_to, left, made_by};
+ghost use Rattle.samoa_invariant.specs.Index.{IsHead};
 ghost use Rattle.samoa_invariant.specs.Inv.{AnswersSerially, HasSerialAnswer, Invariant, Meets, PlaysScript};
 
 /// Every declaration, of any form, meets what the core asks of it.
@@ -69,4 +70,9 @@ pub fn later_events_do_not_matter()
 pub fn the_serial_run_is_that_of_the_script()
     ensures answers { (play : Play) (script : Script) (xs : List Ext) (core : Core) → PlaysScript play script xs → Reached play core → core.count ≤ length xs → (k : ℕ) (x : Ext) → k < core.count → slice_get xs k ≡ Some x → core.ended k ≡ true → AnswersSerially script xs core k x }
     ensures states { (play : Play) (script : Script) (xs : List Ext) (core : Core) → PlaysScript play script xs → Reached play core → core.count ≡ length xs → AllEnded core → (v : ℕ) (p : ℕ) → core.boxes v p ≡ (serial script xs).states v p }
+{}
+
+/// The turn at a slot is with the head of its queue.
+pub fn queues_give_the_turn()
+    ensures head { (play : Play) (core : Core) (k p : ℕ) → Reached play core → (HasTurn play core k p ↔ IsHead play core (play.node k) p k) }
 {}
