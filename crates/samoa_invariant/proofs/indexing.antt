@@ -1,0 +1,4 @@
+-- The index of a core goes on with each step.
+pub mod Queues
+pub mod Carried
+pub mod Moves

@@ -1,0 +1,7 @@
+use Rattle.samoa_invariant.proofs.indexing.Moves.{step_indexed}
+use Rattle.samoa_invariant.proofs.refinement.Ends.{reached_keeps}
+use Rattle.samoa_invariant.proofs.indexing.Queues.{head_turns, turn_heads}
+use Rattle.samoa_invariant.proofs.laws.queues_give_the_turn.Goals as goal
+
+pub returns : goal.returns
+returns c = record { head = λ play core k p r. (turn_heads play core k p (reached_keeps play core r), head_turns play core k p (reached_keeps play core r)) }
