@@ -2,3 +2,5 @@
 pub mod Queues
 pub mod Carried
 pub mod Moves
+pub mod Marks
+pub mod Stepping
