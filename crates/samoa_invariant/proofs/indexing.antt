@@ -4,3 +4,4 @@ pub mod Carried
 pub mod Moves
 pub mod Marks
 pub mod Stepping
+pub mod Handling

@@ -31,13 +31,13 @@ owner_from P first core k p index inv is lt o = go (in_order k first)
     go (inr (inr more)) = omega arith
 
 -- who comes next after who has the turn
-next_of : (P : Play) (first : ℕ) (core : Core) (k p : ℕ) (index : Index) → Invariant P core → IsIndexed P first core index → k < core.count
+pub next_of : (P : Play) (first : ℕ) (core : Core) (k p : ℕ) (index : Index) → Invariant P core → IsIndexed P first core index → k < core.count
     → Owns P (core.local (P.node k) p) k (P.node k) p → IsNextOf P core.count k p (index.next k p)
 next_of P first core k p index inv is lt o =
     is.nexts k p (owner_from P first core k p index inv is lt o) lt (owner_declares P (core.local (P.node k) p) k (P.node k) p o).some
 
 -- where the local version stays below the private one, the turn stays with k
-turn_stays : (P : Play) (new : Core) (k p : ℕ) → Owns P (new.local (P.node k) p) k (P.node k) p → IsTurnOf P new k p None
+pub turn_stays : (P : Play) (new : Core) (k p : ℕ) → Owns P (new.local (P.node k) p) k (P.node k) p → IsTurnOf P new k p None
 turn_stays P new k p mine j ne lt theirs = absurd (ne (owns_single P (new.local (P.node k) p) j k (P.node k) p theirs mine))
 
 -- a release
