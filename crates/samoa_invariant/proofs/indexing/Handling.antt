@@ -13,7 +13,7 @@ use Rattle.samoa_invariant.proofs.preservation.Forms.{enabled_keeps}
 use Rattle.samoa_invariant.proofs.preservation.Slots.{put-else, put-here, put_at-else, put_at-here, slot_or_not, turn_owns}
 use Rattle.samoa_invariant.proofs.preservation.Steps.{ends_call-most, if_most, some_injective}
 use Rattle.samoa_invariant.proofs.indexing.Carried.{Carries, carried_end, carried_enter, carried_head, carried_release}
-use Rattle.samoa_invariant.proofs.indexing.Marks.{Marks, kept_moves, passed_moves, put_true}
+use Rattle.samoa_invariant.proofs.indexing.Marks.{Marks, kept_moves, passed_moves, put_false, put_true}
 use Rattle.samoa_invariant.proofs.indexing.Moves.{IsStepAt, IsTurnOf, step_indexed}
 use Rattle.samoa_invariant.proofs.indexing.Queues.{owner_heads, owner_is_next, passed_heads}
 use Rattle.samoa_invariant.proofs.indexing.Stepping.{next_of, turn_stays}
@@ -169,3 +169,79 @@ abandoned_at P first core k p index enters inv after out is may =
     step_indexed P first core new k p None index (abandoned index k enters) inv after step (turn_stays P new k p step.owns) is
     (kept_moves P new k p index (abandoned index k enters) (abandon_marks P first core k p index enters step.admitted is may)
     (carried_head P core new (P.node k) p (index.head (P.node k) p) refl refl (λ j. refl) (is.heads (P.node k) p)))
+
+-- what is out to a computation is out for its next handler step
+out_next : (P : Play) (core : Core) (k p : ℕ) → Invariant P core → IsOut P core k p → IsNextAt (core.comp k) p
+out_next P core k p inv out =
+    let o : IsOutRightly P core (P.node k) p k = inv.out (P.node k) p k out.out in
+    subst (λ (x : Computation). IsNextAt x p) (sym (inv.calls.comp k o.admitted)) o.next
+
+abandon_is : (P : Play) (core : Core) (k p : ℕ) → IsNextAt (core.comp k) p → made_by P core (Step.Abandon k) ≡ abandon P core k p
+abandon_is P core k p n = ap (abandon_next P core k) n.next ∙ ap (λ (q : ℕ). abandon P core k q) n.is_at
+
+-- an abandoned handler step may begin again where the core runs on
+pub abandoned_indexed : (P : Play) (first : ℕ) (core : Core) (k p : ℕ) (index : Index) (enters : Bool) → Invariant P core → IsOut P core k p → IsIndexed P first core index
+    → enters ≡ true ↔ MayEnter P (made_by P core (Step.Abandon k)) k → IsIndexed P first (made_by P core (Step.Abandon k)) (abandoned index k enters)
+abandoned_indexed P first core k p index enters inv out is may =
+    let same : made_by P core (Step.Abandon k) ≡ abandon P core k p = abandon_is P core k p (out_next P core k p inv out) in
+    let after : Invariant P (made_by P core (Step.Abandon k)) = enabled_keeps P core (Step.Abandon k) inv (record { slot = p; out = out }) in
+    subst (λ (x : Core). IsIndexed P first x (abandoned index k enters)) (sym same)
+    (abandoned_at P first core k p index enters inv (subst (λ (x : Core). Invariant P x) same after) out.out is
+    (subst (λ (x : Core). enters ≡ true ↔ MayEnter P x k) same may))
+
+-- computation k has ended: nothing changes, as the set of ends may have more than those that are due
+pub ended_indexed : (P : Play) (first : ℕ) (core : Core) (k : ℕ) (index : Index) → CanEnd P core k → IsIndexed P first core index
+    → IsIndexed P first (made_by P core (Step.End k)) index
+ended_indexed P first core k index can is = record {
+  begun = is.begun;
+  cleared = λ j less. put_true core.ended k j (is.cleared j less);
+  heads = λ v q. carried_head P core (finish core k) v q (index.head v q) refl refl (λ j. refl) (is.heads v q);
+  tails = is.tails;
+  nexts = is.nexts;
+  ready = λ j from lt. (λ on. let may : MayEnter P core j = (is.ready j from lt).0 on in (may.0, enters core (finish core k) j may.0 (finish core k).ended refl may.1), λ may. (is.ready j from lt).1 (may.0, enters (finish core k) core j may.0 core.ended refl may.1));
+  restless = λ j q now. is.restless j q (record { turn = record { admitted = now.turn.admitted; turn = record { from = now.turn.from; below = now.turn.below } }; quiet = now.quiet });
+  closing = λ j now. closing j now (cases_eq j k);
+  unadmitted = is.unadmitted;
+}
+  where
+    enters : (a b : Core) (j q : ℕ) → (ended : ℕ → Bool) → b ≡ record a { ended = ended } → CanEnter P (running a) j q → CanEnter P (running b) j q
+    enters a b j q ended e now = subst (λ (x : Core). CanEnter P (running x) j q) (sym e) (record {
+      next = now.next;
+      not_out = now.not_out;
+      turn = record { admitted = now.turn.admitted; turn = record { from = now.turn.from; below = now.turn.below } };
+      home = now.home;
+      running = refl;
+    })
+
+    closing : (j : ℕ) → CanEnd P (finish core k) j → (j ≡ k) ⊎ (j ≢ k) → index.closing j ≡ true
+    closing j now (inl e) = is.closing j (subst (λ (n : ℕ). CanEnd P core n) (sym e) can)
+    closing j now (inr ne) = is.closing j (record { admitted = now.admitted; not_ended = sym (put-else core.ended k j true ne) ∙ now.not_ended; idle = now.idle; past = now.past })
+
+-- the sets of releases and of ends may lose whom none is due of
+pub unrestless_indexed : (P : Play) (first : ℕ) (core : Core) (k : ℕ) (index : Index) → ((p : ℕ) → CanRelease P core k p → ⊥) → IsIndexed P first core index
+    → IsIndexed P first core (unrestless index k)
+unrestless_indexed P first core k index none is = record {
+  begun = is.begun;
+  cleared = is.cleared;
+  heads = is.heads;
+  tails = is.tails;
+  nexts = is.nexts;
+  ready = is.ready;
+  restless = λ j q now. put-else index.restless k j false (λ (e : j ≡ k). none q (subst (λ (n : ℕ). CanRelease P core n q) e now)) ∙ is.restless j q now;
+  closing = is.closing;
+  unadmitted = λ j le. let old : IsUnmarked index j = is.unadmitted j le in record { ready = old.ready; restless = put_false index.restless k j old.restless; closing = old.closing };
+}
+
+pub unclosing_indexed : (P : Play) (first : ℕ) (core : Core) (k : ℕ) (index : Index) → (CanEnd P core k → ⊥) → IsIndexed P first core index
+    → IsIndexed P first core (unclosing index k)
+unclosing_indexed P first core k index none is = record {
+  begun = is.begun;
+  cleared = is.cleared;
+  heads = is.heads;
+  tails = is.tails;
+  nexts = is.nexts;
+  ready = is.ready;
+  restless = is.restless;
+  closing = λ j now. put-else index.closing k j false (λ (e : j ≡ k). none (subst (λ (n : ℕ). CanEnd P core n) e now)) ∙ is.closing j now;
+  unadmitted = λ j le. let old : IsUnmarked index j = is.unadmitted j le in record { ready = old.ready; restless = old.restless; closing = put_false index.closing k j old.closing };
+}

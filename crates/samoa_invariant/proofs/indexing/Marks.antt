@@ -30,6 +30,13 @@ put_true f k j e = go (cases_eq j k)
     go (inl same) = put-here f k j true same
     go (inr ne) = put-else f k j true ne ∙ e
 
+pub put_false : (f : ℕ → Bool) (k j : ℕ) → f j ≡ false → put f k false j ≡ false
+put_false f k j e = go (cases_eq j k)
+  where
+    go : (j ≡ k) ⊎ (j ≢ k) → put f k false j ≡ false
+    go (inl same) = put-here f k j false same
+    go (inr ne) = put-else f k j false ne ∙ e
+
 pub kept_moves : (P : Play) (new : Core) (k p : ℕ) (index mid : Index) → Marks P new k index mid → IsHeadOf P new (P.node k) p (index.head (P.node k) p)
     → Moves P new k p None index mid
 kept_moves P new k p index mid m head = record {
