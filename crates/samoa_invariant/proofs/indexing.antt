@@ -5,3 +5,4 @@ pub mod Moves
 pub mod Marks
 pub mod Stepping
 pub mod Handling
+pub mod Leaving

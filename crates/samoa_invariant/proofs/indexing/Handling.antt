@@ -102,7 +102,7 @@ entered_indexed P first core k p index inv can is =
     (carried_head P core new (P.node k) p (index.head (P.node k) p) refl refl (λ j. refl) (is.heads (P.node k) p)))
 
 -- what comes home takes nothing from another
-came_home : (core new : Core) (node p k j : ℕ) → core.out node p ≡ Some k → ((v q : ℕ) → (v ≢ node) ⊎ (q ≢ p) → new.out v q ≡ core.out v q) → j ≢ k
+pub came_home : (core new : Core) (node p k j : ℕ) → core.out node p ≡ Some k → ((v q : ℕ) → (v ≢ node) ⊎ (q ≢ p) → new.out v q ≡ core.out v q) → j ≢ k
     → (v q : ℕ) → core.out v q ≡ Some j → new.out v q ≡ Some j
 came_home core new node p k j out else ne v q e = go (slot_or_not v node q p)
   where
@@ -113,7 +113,7 @@ came_home core new node p k j out else ne v q e = go (slot_or_not v node q p)
     go (inr apart) = else v q apart ∙ e
 
 -- and gives nothing to one
-gone_home : (core new : Core) (node p j : ℕ) → ((v q : ℕ) → v ≡ node → q ≡ p → new.out v q ≡ None) → ((v q : ℕ) → (v ≢ node) ⊎ (q ≢ p) → new.out v q ≡ core.out v q)
+pub gone_home : (core new : Core) (node p j : ℕ) → ((v q : ℕ) → v ≡ node → q ≡ p → new.out v q ≡ None) → ((v q : ℕ) → (v ≢ node) ⊎ (q ≢ p) → new.out v q ≡ core.out v q)
     → (v q : ℕ) → new.out v q ≡ Some j → core.out v q ≡ Some j
 gone_home core new node p j here else v q e = go (slot_or_not v node q p)
   where
@@ -171,7 +171,7 @@ abandoned_at P first core k p index enters inv after out is may =
     (carried_head P core new (P.node k) p (index.head (P.node k) p) refl refl (λ j. refl) (is.heads (P.node k) p)))
 
 -- what is out to a computation is out for its next handler step
-out_next : (P : Play) (core : Core) (k p : ℕ) → Invariant P core → IsOut P core k p → IsNextAt (core.comp k) p
+pub out_next : (P : Play) (core : Core) (k p : ℕ) → Invariant P core → IsOut P core k p → IsNextAt (core.comp k) p
 out_next P core k p inv out =
     let o : IsOutRightly P core (P.node k) p k = inv.out (P.node k) p k out.out in
     subst (λ (x : Computation). IsNextAt x p) (sym (inv.calls.comp k o.admitted)) o.next

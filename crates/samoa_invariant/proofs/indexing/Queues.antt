@@ -81,3 +81,9 @@ owner_is_next P core k p None j lt is last less o =
 owner_is_next P core k p (Some i) j lt is after less o =
     ap (λ (n : ℕ). Some n) (owns_single P (core.local (P.node k) p) i j (P.node k) p
     (subst (λ (x : ℕ). Owns P x i (P.node k) p) (sym is) (next_owns P core.count k p i after)) o)
+
+-- a slot has one head
+pub head_is : (P : Play) (core : Core) (v p : ℕ) (x : Option ℕ) (k : ℕ) → Invariant P core → IsHeadOf P core v p x → IsHead P core v p k → x ≡ Some k
+head_is P core v p None k inv free head = absurd (omega (arith, free k head.admitted head.declares, head.short))
+head_is P core v p (Some j) k inv mine head =
+    ap (λ (n : ℕ). Some n) (owns_single P (core.local v p) j k v p (head_owns P core v p j inv mine) (head_owns P core v p k inv head))
