@@ -6,3 +6,4 @@ pub mod Marks
 pub mod Stepping
 pub mod Handling
 pub mod Leaving
+pub mod Admitting

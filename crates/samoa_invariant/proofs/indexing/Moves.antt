@@ -43,7 +43,7 @@ pub record Moves (P : Play) (new : Core) (k p : ℕ) (x : Option ℕ) (index oth
 abbrev pub IsTurnOf : Play → Core → ℕ → ℕ → Option ℕ → Type 0
 IsTurnOf P new k p x = (j : ℕ) → j ≢ k → j < new.count → Owns P (new.local (P.node k) p) j (P.node k) p → x ≡ Some j
 
-is_or_not : (x : Option ℕ) (j : ℕ) → (x ≡ Some j) ⊎ (x ≢ Some j)
+pub is_or_not : (x : Option ℕ) (j : ℕ) → (x ≡ Some j) ⊎ (x ≢ Some j)
 is_or_not None j = inr (λ (e : None ≡ Some j). cc)
 is_or_not (Some i) j = go (cases_eq i j)
   where
