@@ -7,3 +7,4 @@ pub mod Stepping
 pub mod Handling
 pub mod Leaving
 pub mod Admitting
+pub mod Clearing
