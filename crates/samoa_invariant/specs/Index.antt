@@ -61,6 +61,18 @@ running core = record core { stopped = false }
 abbrev pub MayEnter : Play → Core → ℕ → Type 0
 MayEnter P core k = (p : ℕ) × CanEnter P (running core) k p
 
+-- a test says whether the computation may enter
+abbrev pub TellsEntry : Play → Core → ℕ → Bool → Type 0
+TellsEntry P core k enters = (enters ≡ true) ↔ MayEnter P core k
+
+-- the same of who comes next, if anyone does
+abbrev pub TellsNext : Play → Core → Option ℕ → Bool → Type 0
+TellsNext P core x enters = (j : ℕ) → x ≡ Some j → TellsEntry P core j enters
+
+-- a test says which microprotocols computation k declares
+abbrev pub TellsNamed : Play → ℕ → (ℕ → Bool) → Type 0
+TellsNamed P k named = (p : ℕ) → (named p ≡ true) ↔ (0 < weight (P.decl k) p)
+
 -- by slot the head and the tail of its queue; by computation and microprotocol who comes next in the queue; and by
 -- computation whether it may enter, and whether a release or the end of it may be due
 pub record Index : Type 0 where
@@ -84,7 +96,7 @@ pub record IsIndexed (P : Play) (first : ℕ) (core : Core) (index : Index) : Ty
   pub heads : (v p : ℕ) → IsHeadOf P core v p (index.head v p)
   pub tails : (v p : ℕ) → IsTailOf P first core.count v p (index.tail v p)
   pub nexts : (k p : ℕ) → first ≤ k → k < core.count → 0 < weight (P.decl k) p → IsNextOf P core.count k p (index.next k p)
-  pub ready : (k : ℕ) → first ≤ k → k < core.count → index.ready k ≡ true ↔ MayEnter P core k
+  pub ready : (k : ℕ) → first ≤ k → k < core.count → TellsEntry P core k (index.ready k)
   pub restless : (k p : ℕ) → CanRelease P core k p → index.restless k ≡ true
   pub closing : (k : ℕ) → CanEnd P core k → index.closing k ≡ true
   pub unadmitted : (k : ℕ) → core.count ≤ k → IsUnmarked index k

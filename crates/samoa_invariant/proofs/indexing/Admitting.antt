@@ -6,7 +6,7 @@ use Rattle.samoa_invariant.specs.Slots.{At}
 use Rattle.samoa_invariant.specs.Play.{Play, version, weight_at}
 use Rattle.samoa_invariant.specs.State.{AllEnded, CanEnd, CanEnter, CanRelease, Core, Step, admit, made_by, put}
 use Rattle.samoa_invariant.specs.Inv.{Invariant, IsDone}
-use Rattle.samoa_invariant.specs.Index.{Declares, Index, IsAfter, IsFree, IsHead, IsHeadOf, IsIndexed, IsLast, IsNextOf, IsTail, IsTailOf, IsUnmarked, MayEnter, admitted, is_tail, none_indexed, or_else, running}
+use Rattle.samoa_invariant.specs.Index.{Declares, Index, IsAfter, IsFree, IsHead, IsHeadOf, IsIndexed, IsLast, IsNextOf, IsTail, IsTailOf, IsUnmarked, MayEnter, TellsEntry, TellsNamed, admitted, is_tail, none_indexed, or_else, running}
 use Rattle.samoa_invariant.proofs.preservation.Slots.{put-else, put-here}
 use Rattle.samoa_invariant.proofs.preservation.Versions.{in_order, weight_at-is}
 use Rattle.samoa_invariant.proofs.indexing.Carried.{Carries, carried_end, carried_enter, carried_release, running_turn}
@@ -145,11 +145,7 @@ carries_back P core j ne = record {
   out = λ v q e. e;
 }
 
--- which microprotocols who is admitted declares
-abbrev pub Names : Play → ℕ → (ℕ → Bool) → Type 0
-Names P k named = (p : ℕ) → named p ≡ true ↔ 0 < weight (P.decl k) p
-
-named_or_not : (P : Play) (core : Core) (named : ℕ → Bool) → Names P core.count named → (v p : ℕ)
+named_or_not : (P : Play) (core : Core) (named : ℕ → Bool) → TellsNamed P core.count named → (v p : ℕ)
     → (((v == P.node core.count) && named p) ≡ true × Declares P v p core.count) ⊎ (((v == P.node core.count) && named p) ≡ false × (Declares P v p core.count → ⊥))
 named_or_not P core named names v p = go (cases_eq v (P.node core.count)) (or_not (named p))
   where
@@ -161,7 +157,7 @@ named_or_not P core named names v p = go (cases_eq v (P.node core.count)) (or_no
 
 -- who is admitted comes last in the queues that it declares; a release, its end or its first handler step may be due
 pub admitted_indexed : (P : Play) (first : ℕ) (core : Core) (index : Index) (named : ℕ → Bool) (enters : Bool) → Invariant P core → IsIndexed P first core index
-    → Names P core.count named → enters ≡ true ↔ MayEnter P (made_by P core Step.Admit) core.count
+    → TellsNamed P core.count named → TellsEntry P (made_by P core Step.Admit) core.count enters
     → IsIndexed P first (made_by P core Step.Admit) (admitted index core.count (P.node core.count) named enters)
 admitted_indexed P first core index named enters inv is names may = record {
   begun = omega (arith, is.begun);

@@ -8,7 +8,7 @@ use Rattle.samoa_serial.specs.Alone.{next_step}
 use Rattle.samoa_invariant.specs.Play.{Play, is_bound, version}
 use Rattle.samoa_invariant.specs.State.{CanEnd, CanEnter, CanLeave, CanRelease, Core, HasTurn, IsNextAt, IsOut, Step, abandon, abandon_next, enter, finish, leave_at, leave_next, made_by, put, raise}
 use Rattle.samoa_invariant.specs.Inv.{Invariant, IsOutRightly, Owns}
-use Rattle.samoa_invariant.specs.Index.{Index, IsHead, IsHeadOf, IsIndexed, IsNextOf, IsUnmarked, MayEnter, abandoned, entered, left, passed_on, running, unclosing, unrestless}
+use Rattle.samoa_invariant.specs.Index.{Index, IsHead, IsHeadOf, IsIndexed, IsNextOf, IsUnmarked, MayEnter, TellsEntry, abandoned, entered, left, passed_on, running, unclosing, unrestless}
 use Rattle.samoa_invariant.proofs.preservation.Forms.{enabled_keeps}
 use Rattle.samoa_invariant.proofs.preservation.Slots.{put-else, put-here, put_at-else, put_at-here, slot_or_not, turn_owns}
 use Rattle.samoa_invariant.proofs.preservation.Steps.{ends_call-most, if_most, some_injective}
@@ -143,7 +143,7 @@ abandon_step P core k p inv out = record {
     else v q apart = put_at-else {A = Option ℕ} core.out (P.node k) p v q None apart
 
 abandon_marks : (P : Play) (first : ℕ) (core : Core) (k p : ℕ) (index : Index) (enters : Bool) → k < core.count → IsIndexed P first core index
-    → enters ≡ true ↔ MayEnter P (abandon P core k p) k → Marks P (abandon P core k p) k index (abandoned index k enters)
+    → TellsEntry P (abandon P core k p) k enters → Marks P (abandon P core k p) k index (abandoned index k enters)
 abandon_marks P first core k p index enters lt is may = record {
   head = λ v q. refl;
   tail = λ v q. refl;
@@ -162,7 +162,7 @@ abandon_marks P first core k p index enters lt is may = record {
 }
 
 abandoned_at : (P : Play) (first : ℕ) (core : Core) (k p : ℕ) (index : Index) (enters : Bool) → Invariant P core → Invariant P (abandon P core k p) → core.out (P.node k) p ≡ Some k
-    → IsIndexed P first core index → enters ≡ true ↔ MayEnter P (abandon P core k p) k → IsIndexed P first (abandon P core k p) (abandoned index k enters)
+    → IsIndexed P first core index → TellsEntry P (abandon P core k p) k enters → IsIndexed P first (abandon P core k p) (abandoned index k enters)
 abandoned_at P first core k p index enters inv after out is may =
     let new : Core = abandon P core k p in
     let step : IsStepAt P core new k p = abandon_step P core k p inv out in
@@ -181,13 +181,13 @@ abandon_is P core k p n = ap (abandon_next P core k) n.next ∙ ap (λ (q : ℕ)
 
 -- an abandoned handler step may begin again where the core runs on
 pub abandoned_indexed : (P : Play) (first : ℕ) (core : Core) (k p : ℕ) (index : Index) (enters : Bool) → Invariant P core → IsOut P core k p → IsIndexed P first core index
-    → enters ≡ true ↔ MayEnter P (made_by P core (Step.Abandon k)) k → IsIndexed P first (made_by P core (Step.Abandon k)) (abandoned index k enters)
+    → TellsEntry P (made_by P core (Step.Abandon k)) k enters → IsIndexed P first (made_by P core (Step.Abandon k)) (abandoned index k enters)
 abandoned_indexed P first core k p index enters inv out is may =
     let same : made_by P core (Step.Abandon k) ≡ abandon P core k p = abandon_is P core k p (out_next P core k p inv out) in
     let after : Invariant P (made_by P core (Step.Abandon k)) = enabled_keeps P core (Step.Abandon k) inv (record { slot = p; out = out }) in
     subst (λ (x : Core). IsIndexed P first x (abandoned index k enters)) (sym same)
     (abandoned_at P first core k p index enters inv (subst (λ (x : Core). Invariant P x) same after) out.out is
-    (subst (λ (x : Core). enters ≡ true ↔ MayEnter P x k) same may))
+    (subst (λ (x : Core). TellsEntry P x k enters) same may))
 
 -- computation k has ended: nothing changes, as the set of ends may have more than those that are due
 pub ended_indexed : (P : Play) (first : ℕ) (core : Core) (k : ℕ) (index : Index) → CanEnd P core k → IsIndexed P first core index

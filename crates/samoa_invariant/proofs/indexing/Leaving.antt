@@ -6,7 +6,7 @@ use Rattle.samoa_serial.specs.Calls.{Computation}
 use Rattle.samoa_invariant.specs.Play.{Play, is_bound, version}
 use Rattle.samoa_invariant.specs.State.{Core, IsNextAt, IsOut, Step, leave_at, leave_next, made_by, raise}
 use Rattle.samoa_invariant.specs.Inv.{Invariant, Owns}
-use Rattle.samoa_invariant.specs.Index.{Index, IsHeadOf, IsIndexed, IsNextOf, MayEnter, left, passed_on}
+use Rattle.samoa_invariant.specs.Index.{Index, IsHeadOf, IsIndexed, IsNextOf, MayEnter, TellsEntry, TellsNext, left, passed_on}
 use Rattle.samoa_invariant.proofs.preservation.Forms.{enabled_keeps}
 use Rattle.samoa_invariant.proofs.preservation.Slots.{put-else, put-here, put_at-else, put_at-here}
 use Rattle.samoa_invariant.proofs.preservation.Steps.{ends_call-most, if_most}
@@ -66,7 +66,7 @@ leave_step P core k c m inv out = record {
     else : (v q : ℕ) → (v ≢ P.node k) ⊎ (q ≢ c.handler.micro.0) → (leave_at P core k c m).out v q ≡ core.out v q
     else v q apart = put_at-else {A = Option ℕ} core.out (P.node k) c.handler.micro.0 v q None apart
 
-left_marks : (P : Play) (new : Core) (k : ℕ) (index : Index) (enters : Bool) → k < new.count → enters ≡ true ↔ MayEnter P new k → Marks P new k index (left index k enters)
+left_marks : (P : Play) (new : Core) (k : ℕ) (index : Index) (enters : Bool) → k < new.count → TellsEntry P new k enters → Marks P new k index (left index k enters)
 left_marks P new k index enters lt may = record {
   head = λ v q. refl;
   tail = λ v q. refl;
@@ -85,7 +85,7 @@ left_marks P new k index enters lt may = record {
 }
 
 kept_at : (P : Play) (first : ℕ) (core : Core) (k : ℕ) (c : Call) (m : Moment) (index : Index) (enters : Bool) → Invariant P core → Invariant P (leave_at P core k c m)
-    → core.out (P.node k) c.handler.micro.0 ≡ Some k → IsIndexed P first core index → enters ≡ true ↔ MayEnter P (leave_at P core k c m) k
+    → core.out (P.node k) c.handler.micro.0 ≡ Some k → IsIndexed P first core index → TellsEntry P (leave_at P core k c m) k enters
     → (leave_at P core k c m).local (P.node k) c.handler.micro.0 < core.private k (P.node k) c.handler.micro.0 → IsIndexed P first (leave_at P core k c m) (left index k enters)
 kept_at P first core k c m index enters inv after out is may below =
     let new : Core = leave_at P core k c m in
@@ -101,9 +101,9 @@ kept_at P first core k c m index enters inv after out is may below =
     (subst (λ (x : Option ℕ). IsHeadOf P new (P.node k) p x) (sym head) (owner_heads P new (P.node k) p k after step.admitted mine)))
 
 passed_at : (P : Play) (first : ℕ) (core : Core) (k : ℕ) (c : Call) (m : Moment) (index : Index) (enters next_enters : Bool) → Invariant P core → Invariant P (leave_at P core k c m)
-    → core.out (P.node k) c.handler.micro.0 ≡ Some k → IsIndexed P first core index → enters ≡ true ↔ MayEnter P (leave_at P core k c m) k
+    → core.out (P.node k) c.handler.micro.0 ≡ Some k → IsIndexed P first core index → TellsEntry P (leave_at P core k c m) k enters
     → core.private k (P.node k) c.handler.micro.0 ≤ (leave_at P core k c m).local (P.node k) c.handler.micro.0
-    → ((j : ℕ) → index.next k c.handler.micro.0 ≡ Some j → next_enters ≡ true ↔ MayEnter P (leave_at P core k c m) j)
+    → TellsNext P (leave_at P core k c m) (index.next k c.handler.micro.0) next_enters
     → IsIndexed P first (leave_at P core k c m) (passed_on (left index k enters) (P.node k) c.handler.micro.0 (index.next k c.handler.micro.0) next_enters)
 passed_at P first core k c m index enters next_enters inv after out is may past next_may =
     let new : Core = leave_at P core k c m in
@@ -123,7 +123,7 @@ leave_is P core k p n = ap (leave_next P core k) n.next
 -- the handler step of k at p has ended, and its version there is below its private one: the turn stays with k
 pub left_kept : (P : Play) (first : ℕ) (core : Core) (k p : ℕ) (index : Index) (enters : Bool) → Invariant P core → IsOut P core k p → IsIndexed P first core index
     → (made_by P core (Step.Leave k)).local (P.node k) p < core.private k (P.node k) p
-    → enters ≡ true ↔ MayEnter P (made_by P core (Step.Leave k)) k
+    → TellsEntry P (made_by P core (Step.Leave k)) k enters
     → IsIndexed P first (made_by P core (Step.Leave k)) (left index k enters)
 left_kept P first core k p index enters inv out is below may =
     let n : IsNextAt (core.comp k) p = out_next P core k p inv out in
@@ -132,15 +132,15 @@ left_kept P first core k p index enters inv out is below may =
     let there : n.call.handler.micro.0 ≡ p = n.is_at in
     subst (λ (x : Core). IsIndexed P first x (left index k enters)) (sym same)
     (kept_at P first core k n.call n.moment index enters inv (subst (λ (x : Core). Invariant P x) same after)
-    (subst (λ (q : ℕ). core.out (P.node k) q ≡ Some k) (sym there) out.out) is (subst (λ (x : Core). enters ≡ true ↔ MayEnter P x k) same may)
+    (subst (λ (q : ℕ). core.out (P.node k) q ≡ Some k) (sym there) out.out) is (subst (λ (x : Core). TellsEntry P x k enters) same may)
     (subst (λ (q : ℕ). (leave_at P core k n.call n.moment).local (P.node k) q < core.private k (P.node k) q) (sym there)
     (subst (λ (x : Core). x.local (P.node k) p < core.private k (P.node k) p) same below)))
 
 -- the same where its version there has reached its private one: the turn is handed on
 pub left_passed : (P : Play) (first : ℕ) (core : Core) (k p : ℕ) (index : Index) (enters next_enters : Bool) → Invariant P core → IsOut P core k p → IsIndexed P first core index
     → core.private k (P.node k) p ≤ (made_by P core (Step.Leave k)).local (P.node k) p
-    → enters ≡ true ↔ MayEnter P (made_by P core (Step.Leave k)) k
-    → ((j : ℕ) → index.next k p ≡ Some j → next_enters ≡ true ↔ MayEnter P (made_by P core (Step.Leave k)) j)
+    → TellsEntry P (made_by P core (Step.Leave k)) k enters
+    → TellsNext P (made_by P core (Step.Leave k)) (index.next k p) next_enters
     → IsIndexed P first (made_by P core (Step.Leave k)) (passed_on (left index k enters) (P.node k) p (index.next k p) next_enters)
 left_passed P first core k p index enters next_enters inv out is past may next_may =
     let n : IsNextAt (core.comp k) p = out_next P core k p inv out in
@@ -150,7 +150,7 @@ left_passed P first core k p index enters next_enters inv out is past may next_m
     subst (λ (x : Core). IsIndexed P first x (passed_on (left index k enters) (P.node k) p (index.next k p) next_enters)) (sym same)
     (subst (λ (q : ℕ). IsIndexed P first (leave_at P core k n.call n.moment) (passed_on (left index k enters) (P.node k) q (index.next k q) next_enters)) there
     (passed_at P first core k n.call n.moment index enters next_enters inv (subst (λ (x : Core). Invariant P x) same after)
-    (subst (λ (q : ℕ). core.out (P.node k) q ≡ Some k) (sym there) out.out) is (subst (λ (x : Core). enters ≡ true ↔ MayEnter P x k) same may)
+    (subst (λ (q : ℕ). core.out (P.node k) q ≡ Some k) (sym there) out.out) is (subst (λ (x : Core). TellsEntry P x k enters) same may)
     (subst (λ (q : ℕ). core.private k (P.node k) q ≤ (leave_at P core k n.call n.moment).local (P.node k) q) (sym there)
     (subst (λ (x : Core). core.private k (P.node k) p ≤ x.local (P.node k) p) same past))
-    (λ j e. subst (λ (x : Core). next_enters ≡ true ↔ MayEnter P x j) same (next_may j (subst (λ (q : ℕ). index.next k q ≡ Some j) there e)))))
+    (λ j e. subst (λ (x : Core). TellsEntry P x j next_enters) same (next_may j (subst (λ (q : ℕ). index.next k q ≡ Some j) there e)))))

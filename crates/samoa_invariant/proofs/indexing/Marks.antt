@@ -4,7 +4,7 @@ use Rattle.std.proofs.lemmas.Bool.{cases_eq}
 use Rattle.samoa_invariant.specs.Play.{Play, version}
 use Rattle.samoa_invariant.specs.State.{CanEnd, CanRelease, Core, put}
 use Rattle.samoa_invariant.specs.Inv.{Invariant}
-use Rattle.samoa_invariant.specs.Index.{Index, IsHeadOf, IsNextOf, IsUnmarked, MayEnter, passed_on}
+use Rattle.samoa_invariant.specs.Index.{Index, IsHeadOf, IsNextOf, IsUnmarked, MayEnter, TellsEntry, TellsNext, passed_on}
 use Rattle.samoa_invariant.proofs.preservation.Slots.{put-else, put-here, put_at-else, put_at-here}
 use Rattle.samoa_invariant.proofs.preservation.Steps.{some_injective}
 use Rattle.samoa_invariant.proofs.indexing.Moves.{Moves}
@@ -19,7 +19,7 @@ pub record Marks (P : Play) (new : Core) (k : ℕ) (index mid : Index) : Type 0 
   pub restless : (j : ℕ) → index.restless j ≡ true → mid.restless j ≡ true
   pub closing : (j : ℕ) → index.closing j ≡ true → mid.closing j ≡ true
   pub unmarked : (j : ℕ) → new.count ≤ j → IsUnmarked index j → IsUnmarked mid j
-  pub own_ready : mid.ready k ≡ true ↔ MayEnter P new k
+  pub own_ready : TellsEntry P new k (mid.ready k)
   pub own_restless : (q : ℕ) → CanRelease P new k q → mid.restless k ≡ true
   pub own_closing : CanEnd P new k → mid.closing k ≡ true
 
@@ -56,7 +56,7 @@ kept_moves P new k p index mid m head = record {
 }
 
 pub passed_moves : (P : Play) (new : Core) (k p : ℕ) (x : Option ℕ) (index mid : Index) (enters : Bool) → Marks P new k index mid → k < new.count
-    → IsNextOf P new.count k p x → IsHeadOf P new (P.node k) p x → ((j : ℕ) → x ≡ Some j → enters ≡ true ↔ MayEnter P new j)
+    → IsNextOf P new.count k p x → IsHeadOf P new (P.node k) p x → TellsNext P new x enters
     → Moves P new k p x index (passed_on mid (P.node k) p x enters)
 passed_moves P new k p None index mid enters m lt next head may = record {
   head = rw (put_at-here {A = Option ℕ} mid.head (P.node k) p (P.node k) p None refl refl) head;

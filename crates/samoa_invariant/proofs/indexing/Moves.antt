@@ -5,7 +5,7 @@ use Rattle.samoa_model.specs.Allowed.{weight}
 use Rattle.samoa_invariant.specs.Play.{Play, version}
 use Rattle.samoa_invariant.specs.State.{CanEnd, CanEnter, CanRelease, Core, HasTurn}
 use Rattle.samoa_invariant.specs.Inv.{Invariant, Owns}
-use Rattle.samoa_invariant.specs.Index.{Declares, Index, IsHeadOf, IsIndexed, IsNextOf, IsTailOf, IsUnmarked, MayEnter, running}
+use Rattle.samoa_invariant.specs.Index.{Declares, Index, IsHeadOf, IsIndexed, IsNextOf, IsTailOf, IsUnmarked, MayEnter, TellsEntry, running}
 use Rattle.samoa_invariant.proofs.preservation.Slots.{slot_or_not, turn_owns}
 use Rattle.samoa_invariant.proofs.preservation.Versions.{in_order, owns_single, version-mono, weight_at-is}
 use Rattle.samoa_invariant.proofs.indexing.Carried.{Carries, carried_end, carried_enter, carried_head, carried_release, running_turn}
@@ -33,9 +33,9 @@ pub record Moves (P : Play) (new : Core) (k p : ℕ) (x : Option ℕ) (index oth
   pub restless : (j : ℕ) → index.restless j ≡ true → other.restless j ≡ true
   pub closing : (j : ℕ) → index.closing j ≡ true → other.closing j ≡ true
   pub unmarked : (j : ℕ) → new.count ≤ j → IsUnmarked index j → IsUnmarked other j
-  pub next_ready : (j : ℕ) → x ≡ Some j → other.ready j ≡ true ↔ MayEnter P new j
+  pub next_ready : (j : ℕ) → x ≡ Some j → TellsEntry P new j (other.ready j)
   pub next_restless : (j : ℕ) → x ≡ Some j → other.restless j ≡ true
-  pub own_ready : other.ready k ≡ true ↔ MayEnter P new k
+  pub own_ready : TellsEntry P new k (other.ready k)
   pub own_restless : (q : ℕ) → CanRelease P new k q → other.restless k ≡ true
   pub own_closing : CanEnd P new k → other.closing k ≡ true
 

@@ -8,7 +8,7 @@ use Rattle.samoa_serial.specs.Alone.{next_step}
 use Rattle.samoa_invariant.specs.Play.{Play, is_bound, version}
 use Rattle.samoa_invariant.specs.State.{CanEnd, CanEnter, CanRelease, Core, HasTurn, IsNextAt, IsOut, Step, abandon, abandon_next, enter, finish, leave_at, leave_next, made_by, put, raise, release}
 use Rattle.samoa_invariant.specs.Inv.{Invariant, IsDone, IsOutRightly, Owns}
-use Rattle.samoa_invariant.specs.Index.{Index, IsHead, IsHeadOf, IsIndexed, IsNextOf, IsUnmarked, MayEnter, abandoned, entered, left, passed_on, released, running, unclosing, unrestless}
+use Rattle.samoa_invariant.specs.Index.{Index, IsHead, IsHeadOf, IsIndexed, IsNextOf, IsUnmarked, MayEnter, TellsNext, abandoned, entered, left, passed_on, released, running, unclosing, unrestless}
 use Rattle.samoa_invariant.proofs.preservation.Forms.{enabled_keeps, released_never}
 use Rattle.samoa_invariant.proofs.preservation.Slots.{put-else, put-here, put_at-else, put_at-here, slot_or_not, turn_owns}
 use Rattle.samoa_invariant.proofs.preservation.Steps.{ends_call-most, if_most, some_injective}
@@ -112,7 +112,7 @@ release_marks P first core k p index inv can is = record {
 
 -- after a release who comes next has the turn, and the end of k may be due
 pub released_indexed : (P : Play) (first : ℕ) (core : Core) (k p : ℕ) (index : Index) (enters : Bool) → Invariant P core → CanRelease P core k p → IsIndexed P first core index
-    → ((j : ℕ) → index.next k p ≡ Some j → enters ≡ true ↔ MayEnter P (made_by P core (Step.Release k p)) j)
+    → TellsNext P (made_by P core (Step.Release k p)) (index.next k p) enters
     → IsIndexed P first (made_by P core (Step.Release k p)) (released index k (P.node k) p enters)
 released_indexed P first core k p index enters inv can is may =
     let new : Core = release P core k p in

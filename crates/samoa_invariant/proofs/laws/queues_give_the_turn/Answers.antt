@@ -1,4 +1,6 @@
-use Rattle.samoa_invariant.proofs.indexing.Clearing.{cleared_indexed}
+use Rattle.samoa_invariant.proofs.indexing.Clearing.{cleared_indexed, head_tells}
+use Rattle.samoa_invariant.proofs.indexing.Admitting.{admitted_indexed}
+use Rattle.samoa_invariant.proofs.indexing.Leaving.{left_passed}
 use Rattle.samoa_invariant.proofs.refinement.Ends.{reached_keeps}
 use Rattle.samoa_invariant.proofs.indexing.Queues.{head_turns, turn_heads}
 use Rattle.samoa_invariant.proofs.laws.queues_give_the_turn.Goals as goal
