@@ -8,3 +8,4 @@ pub mod Handling
 pub mod Leaving
 pub mod Admitting
 pub mod Clearing
+pub mod Calm

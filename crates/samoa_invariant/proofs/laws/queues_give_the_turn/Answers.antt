@@ -1,3 +1,5 @@
+use Rattle.samoa_invariant.proofs.indexing.Calm.{calm_releases}
+use Rattle.samoa_invariant.proofs.settling.Making.{releases_of-settle}
 use Rattle.samoa_invariant.proofs.indexing.Clearing.{cleared_indexed, head_tells}
 use Rattle.samoa_invariant.proofs.indexing.Admitting.{admitted_indexed}
 use Rattle.samoa_invariant.proofs.indexing.Leaving.{left_passed}
