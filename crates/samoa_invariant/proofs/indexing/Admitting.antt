@@ -3,14 +3,13 @@ use Rattle.std.proofs.Common.{arith, ◌≡◌, ◌≢◌, ◌↔◌, ℕ, suc, 
 use Rattle.std.proofs.lemmas.Bool.{cases_eq}
 use Rattle.samoa_model.specs.Allowed.{weight}
 use Rattle.samoa_invariant.specs.Slots.{At}
-use Rattle.samoa_invariant.specs.Play.{Play, version, weight_at}
-use Rattle.samoa_invariant.specs.State.{AllEnded, CanEnd, CanEnter, CanRelease, Core, Step, admit, made_by, put}
-use Rattle.samoa_invariant.specs.Inv.{Invariant, IsDone}
-use Rattle.samoa_invariant.specs.Index.{Declares, Index, IsAfter, IsFree, IsHead, IsHeadOf, IsIndexed, IsLast, IsNextOf, IsTail, IsTailOf, IsUnmarked, MayEnter, TellsEntry, TellsNamed, admitted, is_tail, none_indexed, or_else, running}
+use Rattle.samoa_invariant.specs.Play.{Play, weight_at}
+use Rattle.samoa_invariant.specs.State.{CanEnd, CanRelease, Core, Step, admit, made_by, put}
+use Rattle.samoa_invariant.specs.Inv.{Invariant}
+use Rattle.samoa_invariant.specs.Index.{Declares, Index, IsAfter, IsFree, IsHead, IsHeadOf, IsIndexed, IsLast, IsNextOf, IsTail, IsTailOf, IsUnmarked, MayEnter, TellsEntry, TellsNamed, admitted, is_tail, or_else}
 use Rattle.samoa_invariant.proofs.preservation.Slots.{put-else, put-here}
 use Rattle.samoa_invariant.proofs.preservation.Versions.{in_order, weight_at-is}
-use Rattle.samoa_invariant.proofs.indexing.Carried.{Carries, carried_end, carried_enter, carried_release, running_turn}
-use Rattle.samoa_invariant.proofs.indexing.Marks.{put_true}
+use Rattle.samoa_invariant.proofs.indexing.Carried.{Carries, carried_end, carried_enter, carried_release}
 use Rattle.samoa_invariant.proofs.indexing.Moves.{is_or_not}
 
 private_else : (P : Play) (core : Core) (v p j : ℕ) → j < core.count → (admit P core).private j v p ≡ core.private j v p
@@ -202,8 +201,8 @@ admitted_indexed P first core index named enters inv is names may = record {
         go (inl named) (inr isnt) =
             rw (named, is_tail-else (index.tail (P.node core.count) q) j isnt)
             (next_not P core.count j q (index.next j q) old (λ last d. isnt (tail_is P first core.count (P.node core.count) q (index.tail (P.node core.count) q) j
-                (is.tails (P.node core.count) q) from (omega arith) (record { node = sym d.node; some = some })
-                (λ i more less here. last i more less (record { node = d.node ∙ here.node; some = here.some })))))
+            (is.tails (P.node core.count) q) from (omega arith) (record { node = sym d.node; some = some })
+            (λ i more less here. last i more less (record { node = d.node ∙ here.node; some = here.some })))))
 
     ready : (j : ℕ) → first ≤ j → j < suc core.count → (j ≡ core.count) ⊎ (j ≢ core.count) → put index.ready core.count enters j ≡ true ↔ MayEnter P (admit P core) j
     ready j from lt (inl e) =

@@ -1,10 +1,10 @@
 -- What the sets leave out: whose releases and whose end aren't due. And later events change no index.
-use Rattle.std.proofs.Common.{arith, ◌≡◌, ◌≢◌, ◌↔◌, ◌-◌, ℕ, ◌≤◌, ◌<◌, ◌⊎◌, inl, inr, refl, sym, ap, ◌∙◌, subst, Bool, true, false, Option, Some, None}
+use Rattle.std.proofs.Common.{arith, ◌≡◌, ◌-◌, ℕ, ◌≤◌, ◌<◌, refl, sym, ◌∙◌, subst, Bool, true, false, Option, Some, None}
 use Rattle.samoa_model.specs.Allowed.{weight}
 use Rattle.samoa_model.specs.declared.record.Step.{Step}
 use Rattle.samoa_model.specs.declared.script.Decl.{Decl}
 use Rattle.samoa_invariant.specs.Play.{Agree, Play}
-use Rattle.samoa_invariant.specs.State.{CanEnd, CanEnter, CanRelease, Core, put}
+use Rattle.samoa_invariant.specs.State.{CanEnd, CanRelease, Core, put}
 use Rattle.samoa_invariant.specs.Inv.{Invariant}
 use Rattle.samoa_invariant.specs.Index.{Declares, Index, IsHeadOf, IsIndexed, IsNextOf, IsTailOf, MayEnter, TellsEntry, passed_on, released, running}
 use Rattle.samoa_invariant.specs.Runs.{IsDue, Trace, play, state}

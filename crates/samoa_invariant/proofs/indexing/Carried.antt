@@ -1,11 +1,11 @@
 -- What a step leaves of a computation carries over who has the turn and what is due.
-use Rattle.std.proofs.Common.{arith, ◌≡◌, ◌≢◌, ◌↔◌, ℕ, zero, suc, ◌+◌, ◌≤◌, ◌<◌, ◌⊎◌, inl, inr, refl, sym, ap, ◌∙◌, subst, Bool, true, false, Option, Some, None}
+use Rattle.std.proofs.Common.{arith, ◌≡◌, ℕ, ◌≤◌, ◌<◌, refl, sym, ◌∙◌, subst, Option, Some, None}
 use Rattle.samoa_model.specs.Allowed.{weight}
 use Rattle.samoa_model.specs.Scripts.{Table}
 use Rattle.samoa_serial.specs.Calls.{Computation}
 use Rattle.samoa_invariant.specs.Play.{IsIdle, Play}
 use Rattle.samoa_invariant.specs.State.{CanEnd, CanEnter, CanRelease, Core, HasTurn, IsNextAt, Quiet}
-use Rattle.samoa_invariant.specs.Index.{IsHead, IsHeadOf, running}
+use Rattle.samoa_invariant.specs.Index.{IsHeadOf, running}
 
 -- computation j is as it was, and where it is out now it was out before
 pub record Carries (P : Play) (core new : Core) (j : ℕ) : Type 0 where

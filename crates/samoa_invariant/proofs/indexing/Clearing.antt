@@ -1,13 +1,11 @@
 -- The index begins anew with a clear, and what it tells while the core goes on.
-use Rattle.std.proofs.Common.{arith, ◌≡◌, ◌≢◌, ◌↔◌, ℕ, suc, ◌+◌, ◌≤◌, ◌<◌, ◌⊎◌, inl, inr, refl, sym, ap, ◌∙◌, subst, Bool, true, false, Option, Some, None}
-use Rattle.samoa_model.specs.Allowed.{weight}
+use Rattle.std.proofs.Common.{arith, ◌≡◌, ◌≢◌, ◌↔◌, ℕ, ◌≤◌, ◌<◌, ◌⊎◌, inl, inr, refl, sym, ap, ◌∙◌, subst, Bool, true, false, Option, Some, None}
 use Rattle.samoa_model.specs.declared.handler.Moment.{Moment}
 use Rattle.samoa_serial.specs.declared.call.Call.{Call}
-use Rattle.samoa_serial.specs.Alone.{next_step}
-use Rattle.samoa_invariant.specs.Play.{Play, version}
-use Rattle.samoa_invariant.specs.State.{AllEnded, CanEnd, CanEnter, CanRelease, Core, HasTurn, IsNextAt, Step, empty, made_by}
+use Rattle.samoa_invariant.specs.Play.{Play}
+use Rattle.samoa_invariant.specs.State.{AllEnded, CanEnter, Core, HasTurn, IsNextAt, Step, empty, made_by}
 use Rattle.samoa_invariant.specs.Inv.{Invariant, IsDone, IsOutRightly, Owns}
-use Rattle.samoa_invariant.specs.Index.{Declares, Index, IsFree, IsHead, IsHeadOf, IsIndexed, IsNextOf, IsTailOf, IsUnmarked, MayEnter, TellsAs, none_indexed, running}
+use Rattle.samoa_invariant.specs.Index.{Index, IsFree, IsHeadOf, IsIndexed, IsNextOf, IsTailOf, IsUnmarked, MayEnter, TellsAs, none_indexed, running}
 use Rattle.samoa_invariant.proofs.preservation.Slots.{turn_owns}
 use Rattle.samoa_invariant.proofs.preservation.Steps.{some_injective}
 use Rattle.samoa_invariant.proofs.preservation.Versions.{in_order, owns_single}
@@ -131,14 +129,16 @@ head_enters P first core index k p inv is next not_out = (on, back)
   where
     on : index.head (P.node k) p ≡ Some k → MayEnter P core k
     on e =
-        let turn : HasTurn P core k p = (head_tells P first core index k p inv is).0 e in
-        (p, record {
-          next = next;
-          not_out = not_out;
-          turn = record { admitted = turn.admitted; turn = record { from = turn.from; below = turn.below } };
-          home = home_or_out P core k p inv turn not_out;
-          running = refl;
-        })
+        let turn : HasTurn P core k p = (head_tells P first core index k p inv is).0 e in (
+          p,
+          record {
+            next = next;
+            not_out = not_out;
+            turn = record { admitted = turn.admitted; turn = record { from = turn.from; below = turn.below } };
+            home = home_or_out P core k p inv turn not_out;
+            running = refl;
+          },
+        )
 
     back : MayEnter P core k → index.head (P.node k) p ≡ Some k
     back may =

@@ -1,22 +1,18 @@
 -- The index goes on with each handler step that begins, ends or is abandoned, and with each end.
-use Rattle.std.proofs.Common.{arith, ◌≡◌, ◌≢◌, ◌↔◌, ℕ, suc, ◌+◌, ◌≤◌, ◌<◌, ◌⊎◌, inl, inr, refl, sym, ap, ◌∙◌, subst, Bool, true, false, Option, Some, None}
+use Rattle.std.proofs.Common.{arith, ◌≡◌, ◌≢◌, ◌↔◌, ℕ, ◌<◌, ◌⊎◌, inl, inr, refl, sym, ap, ◌∙◌, subst, Bool, true, false, Option, Some, None}
 use Rattle.std.proofs.lemmas.Bool.{cases_eq}
-use Rattle.samoa_model.specs.declared.handler.Moment.{Moment}
-use Rattle.samoa_serial.specs.declared.call.Call.{Call}
 use Rattle.samoa_serial.specs.Calls.{Computation}
-use Rattle.samoa_serial.specs.Alone.{next_step}
-use Rattle.samoa_invariant.specs.Play.{Play, is_bound, version}
-use Rattle.samoa_invariant.specs.State.{CanEnd, CanEnter, CanLeave, CanRelease, Core, HasTurn, IsNextAt, IsOut, Step, abandon, abandon_next, enter, finish, leave_at, leave_next, made_by, put, raise}
+use Rattle.samoa_invariant.specs.Play.{Play}
+use Rattle.samoa_invariant.specs.State.{CanEnd, CanEnter, CanRelease, Core, IsNextAt, IsOut, Step, abandon, abandon_next, enter, finish, made_by, put}
 use Rattle.samoa_invariant.specs.Inv.{Invariant, IsOutRightly, Owns}
-use Rattle.samoa_invariant.specs.Index.{Index, IsHead, IsHeadOf, IsIndexed, IsNextOf, IsUnmarked, MayEnter, TellsEntry, abandoned, entered, left, passed_on, running, unclosing, unrestless}
+use Rattle.samoa_invariant.specs.Index.{Index, IsIndexed, IsUnmarked, MayEnter, TellsEntry, abandoned, entered, running, unclosing, unrestless}
 use Rattle.samoa_invariant.proofs.preservation.Forms.{enabled_keeps}
 use Rattle.samoa_invariant.proofs.preservation.Slots.{put-else, put-here, put_at-else, put_at-here, slot_or_not, turn_owns}
-use Rattle.samoa_invariant.proofs.preservation.Steps.{ends_call-most, if_most, some_injective}
-use Rattle.samoa_invariant.proofs.indexing.Carried.{Carries, carried_end, carried_enter, carried_head, carried_release}
-use Rattle.samoa_invariant.proofs.indexing.Marks.{Marks, kept_moves, passed_moves, put_false, put_true}
-use Rattle.samoa_invariant.proofs.indexing.Moves.{IsStepAt, IsTurnOf, step_indexed}
-use Rattle.samoa_invariant.proofs.indexing.Queues.{owner_heads, owner_is_next, passed_heads}
-use Rattle.samoa_invariant.proofs.indexing.Stepping.{next_of, turn_stays}
+use Rattle.samoa_invariant.proofs.preservation.Steps.{some_injective}
+use Rattle.samoa_invariant.proofs.indexing.Carried.{Carries, carried_end, carried_head, carried_release}
+use Rattle.samoa_invariant.proofs.indexing.Marks.{Marks, kept_moves, put_false, put_true}
+use Rattle.samoa_invariant.proofs.indexing.Moves.{IsStepAt, step_indexed}
+use Rattle.samoa_invariant.proofs.indexing.Stepping.{turn_stays}
 
 -- a handler step begins
 enter_back : (P : Play) (core : Core) (k p j : ℕ) → CanEnter P core k p → Carries P (enter P core k p) core j
@@ -41,14 +37,14 @@ enter_step : (P : Play) (core : Core) (k p : ℕ) → Invariant P core → CanEn
 enter_step P core k p inv can = record {
   count = refl;
   on = λ j ne. record {
-      admitted = λ lt. lt;
-      comp = refl;
-      table = refl;
-      from = λ q. refl;
-      private = λ q. refl;
-      ended = refl;
-      out = λ v q e. out j ne v q e (slot_or_not v (P.node k) q p);
-    };
+    admitted = λ lt. lt;
+    comp = refl;
+    table = refl;
+    from = λ q. refl;
+    private = λ q. refl;
+    ended = refl;
+    out = λ v q e. out j ne v q e (slot_or_not v (P.node k) q p);
+  };
   back = λ j ne. enter_back P core k p j can;
   private = λ j v q. refl;
   ended = λ j e. e;
@@ -75,10 +71,10 @@ enter_marks P first core k p index can is = record {
   restless = λ j e. e;
   closing = λ j e. e;
   unmarked = λ j le old. record {
-      ready = put-else index.ready k j false (λ (e : j ≡ k). omega (arith, can.turn.admitted, le)) ∙ old.ready;
-      restless = old.restless;
-      closing = old.closing;
-    };
+    ready = put-else index.ready k j false (λ (e : j ≡ k). omega (arith, can.turn.admitted, le)) ∙ old.ready;
+    restless = old.restless;
+    closing = old.closing;
+  };
   own_ready = (on, off);
   own_restless = λ q now. is.restless k q (carried_release P (enter P core k p) core k q (enter_back P core k p k can) refl now);
   own_closing = λ now. is.closing k (carried_end P (enter P core k p) core k (enter_back P core k p k can) (λ q some le. le) now);
@@ -152,10 +148,10 @@ abandon_marks P first core k p index enters lt is may = record {
   restless = λ j e. e;
   closing = λ j e. e;
   unmarked = λ j le old. record {
-      ready = put-else index.ready k j enters (λ (e : j ≡ k). omega (arith, lt, le)) ∙ old.ready;
-      restless = old.restless;
-      closing = old.closing;
-    };
+    ready = put-else index.ready k j enters (λ (e : j ≡ k). omega (arith, lt, le)) ∙ old.ready;
+    restless = old.restless;
+    closing = old.closing;
+  };
   own_ready = subst (λ (b : Bool). b ≡ true ↔ MayEnter P (abandon P core k p) k) (sym (put-here index.ready k k enters refl)) may;
   own_restless = λ q now. is.restless k q (record { turn = record { admitted = now.turn.admitted; turn = record { from = now.turn.from; below = now.turn.below } }; quiet = now.quiet });
   own_closing = λ now. is.closing k (record { admitted = now.admitted; not_ended = now.not_ended; idle = now.idle; past = now.past });

@@ -1,8 +1,7 @@
 -- The index goes on where a handler step ends.
-use Rattle.std.proofs.Common.{arith, ◌≡◌, ◌≢◌, ◌↔◌, ℕ, suc, ◌+◌, ◌≤◌, ◌<◌, ◌⊎◌, inl, inr, refl, sym, ap, ◌∙◌, subst, Bool, true, false, Option, Some, None}
+use Rattle.std.proofs.Common.{arith, ◌≡◌, ◌≢◌, ◌↔◌, ℕ, suc, ◌+◌, ◌≤◌, ◌<◌, ◌⊎◌, refl, sym, ap, ◌∙◌, subst, Bool, true, Option, Some, None}
 use Rattle.samoa_model.specs.declared.handler.Moment.{Moment}
 use Rattle.samoa_serial.specs.declared.call.Call.{Call}
-use Rattle.samoa_serial.specs.Calls.{Computation}
 use Rattle.samoa_invariant.specs.Play.{Play, is_bound, version}
 use Rattle.samoa_invariant.specs.State.{Core, IsNextAt, IsOut, Step, leave_at, leave_next, made_by, raise}
 use Rattle.samoa_invariant.specs.Inv.{Invariant, Owns}
@@ -19,38 +18,44 @@ use Rattle.samoa_invariant.proofs.indexing.Stepping.{next_of, turn_stays}
 -- a handler step raises its local version by at most 1
 few : (P : Play) (core : Core) (k : ℕ) (c : Call) (m : Moment) → (leave_at P core k c m).local (P.node k) c.handler.micro.0 ≤ suc (core.local (P.node k) c.handler.micro.0)
 few P core k c m =
-    omega (arith, put_at-here {A = ℕ} core.local (P.node k) c.handler.micro.0 (P.node k) c.handler.micro.0
-    (core.local (P.node k) c.handler.micro.0 + raise (P.decl k) (P.step k c.handler.micro (core.boxes (P.node k) c.handler.micro.0) m).1) refl refl,
-    if_most (is_bound (P.decl k)) _ (ends_call-most (P.step k c.handler.micro (core.boxes (P.node k) c.handler.micro.0) m).1))
+    omega (
+      arith,
+      put_at-here {A = ℕ} core.local (P.node k) c.handler.micro.0 (P.node k) c.handler.micro.0
+          (core.local (P.node k) c.handler.micro.0 + raise (P.decl k) (P.step k c.handler.micro (core.boxes (P.node k) c.handler.micro.0) m).1) refl refl,
+      if_most (is_bound (P.decl k)) _ (ends_call-most (P.step k c.handler.micro (core.boxes (P.node k) c.handler.micro.0) m).1),
+    )
 
 -- and never lowers it
 not_less : (P : Play) (core : Core) (k : ℕ) (c : Call) (m : Moment) → core.local (P.node k) c.handler.micro.0 ≤ (leave_at P core k c m).local (P.node k) c.handler.micro.0
 not_less P core k c m =
-    omega (arith, put_at-here {A = ℕ} core.local (P.node k) c.handler.micro.0 (P.node k) c.handler.micro.0
-    (core.local (P.node k) c.handler.micro.0 + raise (P.decl k) (P.step k c.handler.micro (core.boxes (P.node k) c.handler.micro.0) m).1) refl refl)
+    omega (
+      arith,
+      put_at-here {A = ℕ} core.local (P.node k) c.handler.micro.0 (P.node k) c.handler.micro.0
+          (core.local (P.node k) c.handler.micro.0 + raise (P.decl k) (P.step k c.handler.micro (core.boxes (P.node k) c.handler.micro.0) m).1) refl refl,
+    )
 
 leave_step : (P : Play) (core : Core) (k : ℕ) (c : Call) (m : Moment) → Invariant P core → core.out (P.node k) c.handler.micro.0 ≡ Some k
     → IsStepAt P core (leave_at P core k c m) k c.handler.micro.0
 leave_step P core k c m inv out = record {
   count = refl;
   on = λ j ne. record {
-      admitted = λ lt. lt;
-      comp = put-else core.comp k j _ ne;
-      table = refl;
-      from = λ q. refl;
-      private = λ q. refl;
-      ended = refl;
-      out = gone_home core (leave_at P core k c m) (P.node k) c.handler.micro.0 j here else;
-    };
+    admitted = λ lt. lt;
+    comp = put-else core.comp k j _ ne;
+    table = refl;
+    from = λ q. refl;
+    private = λ q. refl;
+    ended = refl;
+    out = gone_home core (leave_at P core k c m) (P.node k) c.handler.micro.0 j here else;
+  };
   back = λ j ne. record {
-      admitted = λ lt. lt;
-      comp = sym (put-else core.comp k j _ ne);
-      table = refl;
-      from = λ q. refl;
-      private = λ q. refl;
-      ended = refl;
-      out = came_home core (leave_at P core k c m) (P.node k) c.handler.micro.0 k j out else ne;
-    };
+    admitted = λ lt. lt;
+    comp = sym (put-else core.comp k j _ ne);
+    table = refl;
+    from = λ q. refl;
+    private = λ q. refl;
+    ended = refl;
+    out = came_home core (leave_at P core k c m) (P.node k) c.handler.micro.0 k j out else ne;
+  };
   private = λ j v q. refl;
   ended = λ j e. e;
   local = λ v q apart. put_at-else {A = ℕ} core.local (P.node k) c.handler.micro.0 v q _ apart;
@@ -75,10 +80,10 @@ left_marks P new k index enters lt may = record {
   restless = λ j e. put_true index.restless k j e;
   closing = λ j e. put_true index.closing k j e;
   unmarked = λ j le old. let ne : j ≢ k = λ (e : j ≡ k). omega (arith, lt, le) in record {
-      ready = put-else index.ready k j enters ne ∙ old.ready;
-      restless = put-else index.restless k j true ne ∙ old.restless;
-      closing = put-else index.closing k j true ne ∙ old.closing;
-    };
+    ready = put-else index.ready k j enters ne ∙ old.ready;
+    restless = put-else index.restless k j true ne ∙ old.restless;
+    closing = put-else index.closing k j true ne ∙ old.closing;
+  };
   own_ready = subst (λ (b : Bool). b ≡ true ↔ MayEnter P new k) (sym (put-here index.ready k k enters refl)) may;
   own_restless = λ q now. put-here index.restless k k true refl;
   own_closing = λ now. put-here index.closing k k true refl;

@@ -1,14 +1,12 @@
 -- Marking a computation and passing a queue on.
 use Rattle.std.proofs.Common.{arith, ◌≡◌, ◌≢◌, ◌↔◌, ℕ, ◌≤◌, ◌<◌, ◌⊎◌, inl, inr, refl, sym, ap, ◌∙◌, subst, Bool, true, false, Option, Some, None}
 use Rattle.std.proofs.lemmas.Bool.{cases_eq}
-use Rattle.samoa_invariant.specs.Play.{Play, version}
+use Rattle.samoa_invariant.specs.Play.{Play}
 use Rattle.samoa_invariant.specs.State.{CanEnd, CanRelease, Core, put}
-use Rattle.samoa_invariant.specs.Inv.{Invariant}
 use Rattle.samoa_invariant.specs.Index.{Index, IsHeadOf, IsNextOf, IsUnmarked, MayEnter, TellsEntry, TellsNext, passed_on}
 use Rattle.samoa_invariant.proofs.preservation.Slots.{put-else, put-here, put_at-else, put_at-here}
 use Rattle.samoa_invariant.proofs.preservation.Steps.{some_injective}
 use Rattle.samoa_invariant.proofs.indexing.Moves.{Moves}
-use Rattle.samoa_invariant.proofs.indexing.Queues.{passed_heads}
 
 -- the index tells what is due of k after the step, and of others what it did
 pub record Marks (P : Play) (new : Core) (k : ℕ) (index mid : Index) : Type 0 where

@@ -1,11 +1,11 @@
 -- A step of one computation at one slot: what an index has to tell after it.
-use Rattle.std.proofs.Common.{arith, ◌≡◌, ◌≢◌, ◌↔◌, ℕ, zero, suc, ◌+◌, ◌≤◌, ◌<◌, ◌⊎◌, inl, inr, refl, sym, ap, ◌∙◌, subst, Bool, true, false, Option, Some, None}
+use Rattle.std.proofs.Common.{arith, ◌≡◌, ◌≢◌, ◌↔◌, ℕ, suc, ◌≤◌, ◌<◌, ◌⊎◌, inl, inr, sym, ap, ◌∙◌, subst, true, Option, Some, None}
 use Rattle.std.proofs.lemmas.Bool.{cases_eq}
 use Rattle.samoa_model.specs.Allowed.{weight}
 use Rattle.samoa_invariant.specs.Play.{Play, version}
 use Rattle.samoa_invariant.specs.State.{CanEnd, CanEnter, CanRelease, Core, HasTurn}
 use Rattle.samoa_invariant.specs.Inv.{Invariant, Owns}
-use Rattle.samoa_invariant.specs.Index.{Declares, Index, IsHeadOf, IsIndexed, IsNextOf, IsTailOf, IsUnmarked, MayEnter, TellsEntry, running}
+use Rattle.samoa_invariant.specs.Index.{Declares, Index, IsHeadOf, IsIndexed, IsUnmarked, MayEnter, TellsEntry, running}
 use Rattle.samoa_invariant.proofs.preservation.Slots.{slot_or_not, turn_owns}
 use Rattle.samoa_invariant.proofs.preservation.Versions.{in_order, owns_single, version-mono, weight_at-is}
 use Rattle.samoa_invariant.proofs.indexing.Carried.{Carries, carried_end, carried_enter, carried_head, carried_release, running_turn}
@@ -91,8 +91,15 @@ past_there P core new k p j inv s ne lt d le = go (in_order j k)
     go : (j < k) ⊎ ((j ≡ k) ⊎ (k < j)) → new.private j (P.node k) p ≤ core.local (P.node k) p
     go (inl less) = omega (arith, inv.booked.private j (P.node k) p lt, version-mono P (suc j) k (P.node k) p (omega arith), s.owns.from)
     go (inr (inl same)) = absurd (ne same)
-    go (inr (inr more)) = absurd (omega (arith, inv.booked.private j (P.node k) p lt, version-mono P (suc k) j (P.node k) p (omega arith), s.most, le,
-        weight_at-is P j (P.node k) p d.node, d.some))
+    go (inr (inr more)) = absurd (omega (
+      arith,
+      inv.booked.private j (P.node k) p lt,
+      version-mono P (suc k) j (P.node k) p (omega arith),
+      s.most,
+      le,
+      weight_at-is P j (P.node k) p d.node,
+      d.some,
+    ))
 
 ends_back : (P : Play) (core new : Core) (k p j : ℕ) → Invariant P new → IsStepAt P core new k p → j ≢ k → CanEnd P new j → CanEnd P core j
 ends_back P core new k p j inv s ne can = carried_end P new core j (s.back j ne) past can

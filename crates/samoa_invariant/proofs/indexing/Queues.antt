@@ -1,11 +1,11 @@
 -- The queues of the slots: the head is who has the turn, and where a computation is past, who comes next is the head.
-use Rattle.std.proofs.Common.{arith, ◌≡◌, ◌≢◌, ◌↔◌, ℕ, zero, suc, ◌+◌, ◌≤◌, ◌<◌, ◌⊎◌, inl, inr, refl, sym, ap, ◌∙◌, subst, Option, Some, None}
+use Rattle.std.proofs.Common.{arith, ◌≡◌, ◌≢◌, ℕ, zero, suc, ◌≤◌, ◌<◌, ◌⊎◌, inl, inr, sym, ap, ◌∙◌, subst, Option, Some, None}
 use Rattle.std.proofs.lemmas.Bool.{cases_eq}
 use Rattle.samoa_model.specs.Allowed.{weight}
 use Rattle.samoa_invariant.specs.Play.{Play, version, weight_at}
 use Rattle.samoa_invariant.specs.State.{Core, HasTurn}
 use Rattle.samoa_invariant.specs.Inv.{Invariant, Owns}
-use Rattle.samoa_invariant.specs.Index.{Declares, IsAfter, IsFree, IsHead, IsHeadOf, IsLast, IsNextOf}
+use Rattle.samoa_invariant.specs.Index.{Declares, IsAfter, IsHead, IsHeadOf, IsLast, IsNextOf}
 use Rattle.samoa_invariant.proofs.preservation.Slots.{owns_turn, turn_owns}
 use Rattle.samoa_invariant.proofs.preservation.Versions.{all_before_past, owns_single, version-mono, weight_at-else, weight_at-is}
 

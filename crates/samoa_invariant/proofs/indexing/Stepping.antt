@@ -1,22 +1,17 @@
 -- The index goes on with each handler step that begins or ends, and with each release and end.
-use Rattle.std.proofs.Common.{arith, ◌≡◌, ◌≢◌, ◌↔◌, ℕ, suc, ◌+◌, ◌≤◌, ◌<◌, ◌⊎◌, inl, inr, refl, sym, ap, ◌∙◌, subst, Bool, true, false, Option, Some, None, []}
+use Rattle.std.proofs.Common.{arith, ◌≡◌, ◌≢◌, ◌↔◌, ℕ, suc, ◌≤◌, ◌<◌, ◌⊎◌, inl, inr, refl, sym, ◌∙◌, subst, Bool, true, Option, None, []}
 use Rattle.std.proofs.lemmas.Bool.{cases_eq}
-use Rattle.samoa_model.specs.declared.handler.Moment.{Moment}
-use Rattle.samoa_serial.specs.declared.call.Call.{Call}
-use Rattle.samoa_serial.specs.Calls.{Computation}
-use Rattle.samoa_serial.specs.Alone.{next_step}
-use Rattle.samoa_invariant.specs.Play.{Play, is_bound, version}
-use Rattle.samoa_invariant.specs.State.{CanEnd, CanEnter, CanRelease, Core, HasTurn, IsNextAt, IsOut, Step, abandon, abandon_next, enter, finish, leave_at, leave_next, made_by, put, raise, release}
-use Rattle.samoa_invariant.specs.Inv.{Invariant, IsDone, IsOutRightly, Owns}
-use Rattle.samoa_invariant.specs.Index.{Index, IsHead, IsHeadOf, IsIndexed, IsNextOf, IsUnmarked, MayEnter, TellsNext, abandoned, entered, left, passed_on, released, running, unclosing, unrestless}
+use Rattle.samoa_invariant.specs.Play.{Play, version}
+use Rattle.samoa_invariant.specs.State.{CanEnter, CanRelease, Core, Step, made_by, put, release}
+use Rattle.samoa_invariant.specs.Inv.{Invariant, IsDone, Owns}
+use Rattle.samoa_invariant.specs.Index.{Index, IsHeadOf, IsIndexed, IsNextOf, MayEnter, TellsNext, released, running}
 use Rattle.samoa_invariant.proofs.preservation.Forms.{enabled_keeps, released_never}
-use Rattle.samoa_invariant.proofs.preservation.Slots.{put-else, put-here, put_at-else, put_at-here, slot_or_not, turn_owns}
-use Rattle.samoa_invariant.proofs.preservation.Steps.{ends_call-most, if_most, some_injective}
+use Rattle.samoa_invariant.proofs.preservation.Slots.{put-else, put-here, put_at-else, put_at-here, turn_owns}
 use Rattle.samoa_invariant.proofs.preservation.Versions.{in_order, owns_single}
-use Rattle.samoa_invariant.proofs.indexing.Carried.{Carries, carried_end, carried_enter, carried_head, carried_release, running_turn}
-use Rattle.samoa_invariant.proofs.indexing.Marks.{Marks, kept_moves, passed_moves, put_true}
+use Rattle.samoa_invariant.proofs.indexing.Carried.{Carries, carried_enter, carried_release, running_turn}
+use Rattle.samoa_invariant.proofs.indexing.Marks.{Marks, passed_moves, put_true}
 use Rattle.samoa_invariant.proofs.indexing.Moves.{IsStepAt, IsTurnOf, step_indexed}
-use Rattle.samoa_invariant.proofs.indexing.Queues.{owner_declares, owner_heads, owner_is_next, passed_heads}
+use Rattle.samoa_invariant.proofs.indexing.Queues.{owner_declares, owner_is_next, passed_heads}
 
 -- who has a turn wasn't cleared away
 pub owner_from : (P : Play) (first : ℕ) (core : Core) (k p : ℕ) (index : Index) → Invariant P core → IsIndexed P first core index → k < core.count
@@ -110,6 +105,15 @@ release_marks P first core k p index inv can is = record {
     restless q now (inl e) = is.restless k p can
     restless q now (inr ne) = is.restless k q (carried_release P (release P core k p) core k q (release_back P core k p k) (sym (local_else P core k p (P.node k) q (inr ne))) now)
 
+-- the local version becomes the private one
+release_passes : (P : Play) (core : Core) (k p : ℕ) → Invariant P core → CanRelease P core k p → (release P core k p).local (P.node k) p ≡ version P (suc k) (P.node k) p
+release_passes P core k p inv can = local_here P core k p ∙ inv.booked.private k (P.node k) p can.turn.admitted
+
+pub release_hands_on : (P : Play) (core : Core) (k p : ℕ) (x : Option ℕ) → Invariant P core → CanRelease P core k p → IsNextOf P core.count k p x
+    → IsHeadOf P (release P core k p) (P.node k) p x
+release_hands_on P core k p x inv can next =
+    passed_heads P (release P core k p) k p x (enabled_keeps P core (Step.Release k p) inv can) can.turn.admitted (release_passes P core k p inv can) next
+
 -- after a release who comes next has the turn, and the end of k may be due
 pub released_indexed : (P : Play) (first : ℕ) (core : Core) (k p : ℕ) (index : Index) (enters : Bool) → Invariant P core → CanRelease P core k p → IsIndexed P first core index
     → TellsNext P (made_by P core (Step.Release k p)) (index.next k p) enters
@@ -118,9 +122,8 @@ released_indexed P first core k p index enters inv can is may =
     let new : Core = release P core k p in
     let after : Invariant P new = enabled_keeps P core (Step.Release k p) inv can in
     let step : IsStepAt P core new k p = release_step P core k p inv can in
-    let passed : new.local (P.node k) p ≡ version P (suc k) (P.node k) p = local_here P core k p ∙ inv.booked.private k (P.node k) p can.turn.admitted in
     let next : IsNextOf P new.count k p (index.next k p) = next_of P first core k p index inv is can.turn.admitted step.owns in
     step_indexed P first core new k p (index.next k p) index (released index k (P.node k) p enters) inv after step
-    (λ j ne lt o. owner_is_next P new k p (index.next k p) j can.turn.admitted passed next lt o) is
+    (λ j ne lt o. owner_is_next P new k p (index.next k p) j can.turn.admitted (release_passes P core k p inv can) next lt o) is
     (passed_moves P new k p (index.next k p) index (record index { closing = put index.closing k true }) enters (release_marks P first core k p index inv can is)
-    can.turn.admitted next (passed_heads P new k p (index.next k p) after can.turn.admitted passed next) may)
+    can.turn.admitted next (release_hands_on P core k p (index.next k p) inv can next) may)
