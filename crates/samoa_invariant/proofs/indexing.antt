@@ -9,3 +9,4 @@ pub mod Leaving
 pub mod Admitting
 pub mod Clearing
 pub mod Calm
+pub mod Leading

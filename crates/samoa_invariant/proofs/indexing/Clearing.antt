@@ -72,7 +72,7 @@ ended_ready P first core index inv all is k from = go (or_not (index.ready k)) (
     go (inl marked) (inr (inr more)) = (is.unadmitted k (omega arith)).ready
 
 -- who has not ended wasn't cleared away
-open_from : (P : Play) (first : ℕ) (core : Core) (index : Index) (k : ℕ) → IsIndexed P first core index → core.ended k ≡ false → first ≤ k
+pub open_from : (P : Play) (first : ℕ) (core : Core) (index : Index) (k : ℕ) → IsIndexed P first core index → core.ended k ≡ false → first ≤ k
 open_from P first core index k is open_yet = go (in_order k first)
   where
     go : (k < first) ⊎ ((k ≡ first) ⊎ (first < k)) → first ≤ k
