@@ -10,3 +10,4 @@ pub mod Admitting
 pub mod Clearing
 pub mod Calm
 pub mod Leading
+pub mod Placed

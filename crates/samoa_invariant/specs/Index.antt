@@ -1,7 +1,8 @@
 -- An index of a core: the queue of each slot, who may begin a handler step, and who may have a release or an end due.
 -- Computations before a first one were cleared away: they have ended, and nothing is kept of them.
-use Rattle.std.specs.Prelude.{◌≡◌, ◌↔◌, ℕ, ◌<◌, ◌≤◌, Bool, true, false, ◌&&◌, ◌==◌, Option, Some, None, if◌then◌else◌}
+use Rattle.std.specs.Prelude.{◌≡◌, ◌↔◌, ℕ, ◌-◌, List, ◌<◌, ◌≤◌, Bool, true, false, ◌&&◌, ◌==◌, Option, Some, None, if◌then◌else◌}
 use Rattle.samoa_model.specs.Allowed.{weight}
+use Rattle.samoa_versions.specs.Ready.{is_member}
 use Rattle.samoa_invariant.specs.Slots.{At, put_at}
 use Rattle.samoa_invariant.specs.Play.{Play}
 use Rattle.samoa_invariant.specs.State.{CanEnd, CanEnter, CanRelease, Core, put}
@@ -121,6 +122,10 @@ none_indexed = record {
   closing = λ k. false;
 }
 
+-- a set that is kept by place, from the first computation on
+abbrev pub placed : ℕ → List Bool → ℕ → Bool
+placed first members k = is_member members (k - first)
+
 -- k's next handler step has begun
 abbrev pub entered : Index → ℕ → Index
 entered index k = record index { ready = put index.ready k false }
@@ -150,10 +155,11 @@ released index k v p enters = passed_on (record index { closing = put index.clos
 abbrev pub abandoned : Index → ℕ → Bool → Index
 abandoned index k enters = record index { ready = put index.ready k enters }
 
--- no release of k may be due, or no end
+-- no release of k is due
 abbrev pub unrestless : Index → ℕ → Index
 unrestless index k = record index { restless = put index.restless k false }
 
+-- its end isn't due
 abbrev pub unclosing : Index → ℕ → Index
 unclosing index k = record index { closing = put index.closing k false }
 

@@ -1,9 +1,7 @@
 -- The index leads whoever picks the next handler step, or settles: it takes the least member of a set each time.
-use Rattle.std.proofs.Common.{arith, ◌≡◌, ◌≢◌, ◌-◌, ℕ, suc, ◌≤◌, ◌<◌, ◌⊎◌, inl, inr, refl, sym, ap, ◌∙◌, subst, true, false}
+use Rattle.std.proofs.Common.{arith, ◌≡◌, ◌-◌, ℕ, suc, ◌≤◌, ◌<◌, sym, ◌∙◌, subst, true, false}
 use Rattle.samoa_model.specs.declared.record.Step.{Step}
-use Rattle.samoa_invariant.specs.Play.{Play}
-use Rattle.samoa_invariant.specs.State.{CanEnd, CanEnter, CanRelease, Core}
-use Rattle.samoa_invariant.specs.Inv.{Invariant}
+use Rattle.samoa_invariant.specs.State.{CanEnd, CanEnter, CanRelease}
 use Rattle.samoa_invariant.specs.Index.{Index, IsIndexed, MayEnter}
 use Rattle.samoa_invariant.specs.Picking.{IsFirstToEnter, NoEnterIsDue}
 use Rattle.samoa_invariant.specs.Runs.{IsDue, IsRun, Trace, play, state}
@@ -32,9 +30,9 @@ least_enters t first index k run is runs from lt marked below =
     record {
       micro = may.0;
       due = record {
-          number = omega arith;
-          enabled = subst (λ (i : ℕ). CanEnter (play t) (state t) i may.0) (place_of k) (running_enters (play t) (state t) k may.0 runs may.1);
-        };
+        number = omega arith;
+        enabled = subst (λ (i : ℕ). CanEnter (play t) (state t) i may.0) (place_of k) (running_enters (play t) (state t) k may.0 runs may.1);
+      };
       least = λ earlier p less due.
           let number : 0 < earlier = due.number in
           let there = enter_marked t first index earlier p run is due in
@@ -67,18 +65,18 @@ pub releases_on : (t u : Trace) (first : ℕ) (index : Index) (c k : ℕ) → Is
     → ((j : ℕ) → first ≤ j → j < k → index.restless j ≡ false) → ReleasesBefore t u (suc k)
 releases_on t u first index c k run is before le none =
     releases_before-skip t u c (suc k) before le (λ j p from less due.
-        let number : 0 < j = due.number in
-        let there = release_marked u first index j p run is due in
-        let never : true ≡ false = sym there.1 ∙ none (j - 1) there.0 (omega arith) in
-        cc)
+    let number : 0 < j = due.number in
+    let there = release_marked u first index j p run is due in
+    let never : true ≡ false = sym there.1 ∙ none (j - 1) there.0 (omega arith) in
+    cc)
 
 pub releases_done : (t u : Trace) (first : ℕ) (index : Index) (c : ℕ) → IsRun u → IsIndexed (play u) first (state u) index → ReleasesBefore t u c
     → ((j : ℕ) → first ≤ j → index.restless j ≡ false) → ReleasesAll t u
 releases_done t u first index c run is before none =
     releases_before-all t u c before (λ j p from due.
-        let there = release_marked u first index j p run is due in
-        let never : true ≡ false = sym there.1 ∙ none (j - 1) there.0 in
-        cc)
+    let there = release_marked u first index j p run is due in
+    let never : true ≡ false = sym there.1 ∙ none (j - 1) there.0 in
+    cc)
 
 -- and the same of ends
 end_marked : (t : Trace) (first : ℕ) (index : Index) (comp : ℕ) → IsIndexed (play t) first (state t) index → IsDue t (Step.End comp)
@@ -91,15 +89,15 @@ pub ends_on : (t u : Trace) (first : ℕ) (index : Index) (c k : ℕ) → IsInde
     → ((j : ℕ) → first ≤ j → j < k → index.closing j ≡ false) → EndsBefore t u (suc k)
 ends_on t u first index c k is before le none =
     ends_before-skip t u c (suc k) before le (λ j from less due.
-        let number : 0 < j = due.number in
-        let there = end_marked u first index j is due in
-        let never : true ≡ false = sym there.1 ∙ none (j - 1) there.0 (omega arith) in
-        cc)
+    let number : 0 < j = due.number in
+    let there = end_marked u first index j is due in
+    let never : true ≡ false = sym there.1 ∙ none (j - 1) there.0 (omega arith) in
+    cc)
 
 pub ends_done : (t u : Trace) (first : ℕ) (index : Index) (c : ℕ) → IsIndexed (play u) first (state u) index → EndsBefore t u c
     → ((j : ℕ) → first ≤ j → index.closing j ≡ false) → EndsAll t u
 ends_done t u first index c is before none =
     ends_before-all t u c before (λ j from due.
-        let there = end_marked u first index j is due in
-        let never : true ≡ false = sym there.1 ∙ none (j - 1) there.0 in
-        cc)
+    let there = end_marked u first index j is due in
+    let never : true ≡ false = sym there.1 ∙ none (j - 1) there.0 in
+    cc)
