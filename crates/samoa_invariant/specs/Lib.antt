@@ -7,3 +7,4 @@ pub mod Runs
 pub mod Within
 pub mod Settling
 pub mod Picking
+pub mod Index

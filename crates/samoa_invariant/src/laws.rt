@@ -1,12 +1,13 @@
 //! The laws of the model, computations numbered from 0.
-ghost use Rattle.std.specs.Prelude.{◌≡◌, ℕ, ◌<◌, ◌≤◌, ◌⊎◌, List, length, slice_get, Some, None, true, false};
+ghost use Rattle.std.specs.Prelude.{◌≡◌, ◌≢◌, ℕ, ◌<◌, ◌≤◌, ◌⊎◌, ◌↔◌, List, length, slice_get, Bool, Option, Some, None, true, false};
 ghost use Rattle.samoa_model.specs.declared.record.Ext.{Ext};
 ghost use Rattle.samoa_model.specs.declared.script.Script.{Script};
 ghost use Rattle.samoa_model.specs.Allowed.{weight};
 ghost use Rattle.samoa_serial.specs.SerialRun.{serial};
 ghost use Rattle.samoa_invariant.specs.Play.{Agree, Never, Play, attempts, is_bound, stood};
 ghost use Rattle.samoa_invariant.specs.Within.{IsWithin};
-ghost use Rattle.samoa_invariant.specs.State.{AllEnded, CanRelease, Core, GoesOnTo, IsEnabled, IsForward, NothingOut, Reached, Step, WholeRun, cells_to, left, made_by};
+ghost use Rattle.samoa_invariant.specs.State.{AllEnded, CanEnd, CanEnter, CanRelease, Core, GoesOnTo, HasTurn, IsEnabled, IsForward, IsNextAt, IsOut, NothingOut, Reached, Step, WholeRun, admit, cells_to, empty, enter, finish, left as steps_left, made_by, release};
+ghost use Rattle.samoa_invariant.specs.Index.{Index, IsHead, IsHeadOf, IsIndexed, IsNextOf, MayEnter, TellsEntry, TellsNamed, TellsNext, abandoned, admitted, entered, left, none_indexed, passed_on, released};
 ghost use Rattle.samoa_invariant.specs.Inv.{AnswersSerially, HasSerialAnswer, Invariant, Meets, PlaysScript};
 
 /// Every declaration, of any form, meets what the core asks of it.
@@ -51,7 +52,7 @@ pub fn something_goes_on()
 
 /// Each step that goes on lowers what is left, so that a run of them ends; and where no step was abandoned, such a run leads to the end of all.
 pub fn what_goes_on_ends()
-    ensures fewer { (play : Play) (core : Core) (step : Step) → Reached play core → IsForward step → IsEnabled play core step → left play (made_by play core step) < left play core }
+    ensures fewer { (play : Play) (core : Core) (step : Step) → Reached play core → IsForward step → IsEnabled play core step → steps_left play (made_by play core step) < steps_left play core }
     ensures ends { (play : Play) (core : Core) → Reached play core → core.stopped ≡ false → (new : Core) × GoesOnTo play core new × AllEnded new }
 {}
 
@@ -69,4 +70,48 @@ pub fn later_events_do_not_matter()
 pub fn the_serial_run_is_that_of_the_script()
     ensures answers { (play : Play) (script : Script) (xs : List Ext) (core : Core) → PlaysScript play script xs → Reached play core → core.count ≤ length xs → (k : ℕ) (x : Ext) → k < core.count → slice_get xs k ≡ Some x → core.ended k ≡ true → AnswersSerially script xs core k x }
     ensures states { (play : Play) (script : Script) (xs : List Ext) (core : Core) → PlaysScript play script xs → Reached play core → core.count ≡ length xs → AllEnded core → (v : ℕ) (p : ℕ) → core.boxes v p ≡ (serial script xs).states v p }
+{}
+
+/// The turn at a slot is with the head of its queue, and a release hands it to who comes next.
+pub fn queues_give_the_turn()
+    ensures head { (play : Play) (core : Core) (k p : ℕ) → Reached play core → (HasTurn play core k p ↔ IsHead play core (play.node k) p k) }
+    ensures next { (play : Play) (core : Core) (k p : ℕ) (next : Option ℕ) → Reached play core → CanRelease play core k p → IsNextOf play core.count k p next
+        → IsHeadOf play (release play core k p) (play.node k) p next }
+{}
+
+/// An index goes on with each step: but for an admission, no more of it changes than what is told of the step's own
+/// computation and of who comes next at the slot. A release marks no computation restless but a later one.
+pub fn an_index_goes_on()
+    ensures opening { (play : Play) → IsIndexed play 0 (empty play) none_indexed }
+    ensures admitted { (play : Play) (first : ℕ) (core : Core) (index : Index) (named : ℕ → Bool) (enters : Bool) → Reached play core → IsIndexed play first core index → TellsNamed play core.count named
+        → TellsEntry play (admit play core) core.count enters → IsIndexed play first (admit play core) (admitted index core.count (play.node core.count) named enters) }
+    ensures entered { (play : Play) (first : ℕ) (core : Core) (index : Index) (k p : ℕ) → Reached play core → IsIndexed play first core index → CanEnter play core k p
+        → IsIndexed play first (enter play core k p) (entered index k) }
+    ensures left { (play : Play) (first : ℕ) (core : Core) (index : Index) (k p : ℕ) (enters : Bool) → Reached play core → IsIndexed play first core index → IsOut play core k p
+        → (made_by play core (Step.Leave k)).local (play.node k) p < core.private k (play.node k) p → TellsEntry play (made_by play core (Step.Leave k)) k enters
+        → IsIndexed play first (made_by play core (Step.Leave k)) (left index k enters) }
+    ensures passed_on { (play : Play) (first : ℕ) (core : Core) (index : Index) (k p : ℕ) (enters next_enters : Bool) → Reached play core → IsIndexed play first core index → IsOut play core k p
+        → core.private k (play.node k) p ≤ (made_by play core (Step.Leave k)).local (play.node k) p → TellsEntry play (made_by play core (Step.Leave k)) k enters
+        → TellsNext play (made_by play core (Step.Leave k)) (index.next k p) next_enters
+        → IsIndexed play first (made_by play core (Step.Leave k)) (passed_on (left index k enters) (play.node k) p (index.next k p) next_enters) }
+    ensures abandoned { (play : Play) (first : ℕ) (core : Core) (index : Index) (k p : ℕ) (enters : Bool) → Reached play core → IsIndexed play first core index → IsOut play core k p
+        → TellsEntry play (made_by play core (Step.Abandon k)) k enters → IsIndexed play first (made_by play core (Step.Abandon k)) (abandoned index k enters) }
+    ensures released { (play : Play) (first : ℕ) (core : Core) (index : Index) (k p : ℕ) (enters : Bool) → Reached play core → IsIndexed play first core index → CanRelease play core k p
+        → TellsNext play (release play core k p) (index.next k p) enters → IsIndexed play first (release play core k p) (released index k (play.node k) p enters) }
+    ensures later { (play : Play) (first : ℕ) (core : Core) (index : Index) (k p j : ℕ) (enters : Bool) → Reached play core → IsIndexed play first core index → CanRelease play core k p → j ≤ k
+        → (released index k (play.node k) p enters).restless j ≡ index.restless j }
+    ensures ended { (play : Play) (first : ℕ) (core : Core) (index : Index) (k : ℕ) → IsIndexed play first core index → CanEnd play core k → IsIndexed play first (finish core k) index }
+    ensures cleared { (play : Play) (core : Core) → Reached play core → AllEnded core → IsIndexed play core.count (made_by play core Step.Clear) none_indexed }
+{}
+
+/// What an index tells. One look at a head tells the turn there, and whether a computation may enter whose next handler
+/// step is there; an abandoned step takes that from all. Where all have ended there is no head, and none may enter.
+pub fn an_index_tells()
+    ensures turn { (play : Play) (first : ℕ) (core : Core) (index : Index) (k p : ℕ) → Reached play core → IsIndexed play first core index
+        → ((index.head (play.node k) p ≡ Some k) ↔ HasTurn play core k p) }
+    ensures enters { (play : Play) (first : ℕ) (core : Core) (index : Index) (k p : ℕ) → Reached play core → IsIndexed play first core index → IsNextAt (core.comp k) p
+        → ((v q : ℕ) → core.out v q ≢ Some k) → ((index.head (play.node k) p ≡ Some k) ↔ MayEnter play core k) }
+    ensures running { (play : Play) (core : Core) (k : ℕ) → core.stopped ≡ false → (MayEnter play core k ↔ ((p : ℕ) × CanEnter play core k p)) }
+    ensures ended { (play : Play) (first : ℕ) (core : Core) (index : Index) → Reached play core → AllEnded core → IsIndexed play first core index
+        → ((v p : ℕ) → index.head v p ≡ None) × ((k : ℕ) → first ≤ k → index.ready k ≡ false) }
 {}

@@ -8,10 +8,11 @@ ghost use Rattle.samoa_serial.specs.SerialRun.{serial};
 ghost use Rattle.samoa_model.specs.Range.{IsInRange};
 ghost use Rattle.samoa_model.specs.Scripts.{decl_of};
 ghost use Rattle.samoa_invariant.specs.Play.{Play, turns};
+ghost use Rattle.samoa_invariant.specs.Index.{Index, IsIndexed};
 ghost use Rattle.samoa_invariant.specs.Inv.{Invariant};
 ghost use Rattle.samoa_invariant.specs.Parts.{StandsSerially};
 ghost use Rattle.samoa_invariant.specs.Picking.{BringsBack, GoesOnItself, IsEnterOf, IsFirstToEnter, IsLeastUnended, IsOutTo, IsPick, NoEnterIsDue, StaysOut};
-ghost use Rattle.samoa_invariant.specs.Settling.{EndsAll, LeavesTheRest, ReleasesAll, Settles, with_steps};
+ghost use Rattle.samoa_invariant.specs.Settling.{EndsAll, EndsBefore, LeavesTheRest, ReleasesAll, ReleasesBefore, Settles, with_steps};
 ghost use Rattle.samoa_invariant.specs.State.{AllEnded, Core, IsSettled, NothingOut, Reached, admit, left, named};
 ghost use Rattle.samoa_invariant.specs.Runs.{ArePoints, GoesOn, IsDue, IsRun, IsServed, Trace, after_step, cleared, ext_at, has_abandon, opening_trace, play, state, with_clear, with_ext, with_step};
 
@@ -111,4 +112,21 @@ pub fn what_is_out_stays_out()
 pub fn admissions_add_few_steps()
     ensures added { (play : Play) (core : Core) → left play (admit play core) ≤ left play core + (2 * turns play core.count + length (named (play.decl core.count)) + 2) }
     ensures steps { (t : Trace) (k : ℕ) → IsInRange t.script → k < length t.exts → turns (play t) k ≤ 5 * (decl_of t.script (ext_at t.exts k)).budget + 4 }
+{}
+
+/// An index leads. In a core that isn't stopped the least computation that is ready is the first to enter, and where none
+/// is ready none is. Where a pass of releases, or of ends, has been made of the computations before one, it has been made
+/// of those before the least marked one too, and where none is marked it is complete.
+pub fn an_index_leads()
+    ensures first { (t : Trace) (first : ℕ) (index : Index) (k : ℕ) → IsRun t → IsIndexed (play t) first (state t) index → (state t).stopped ≡ false → first ≤ k → k < (state t).count
+        → index.ready k ≡ true → ((j : ℕ) → first ≤ j → j < k → index.ready j ≡ false) → IsFirstToEnter t (suc k) }
+    ensures none { (t : Trace) (first : ℕ) (index : Index) → IsRun t → IsIndexed (play t) first (state t) index → ((k : ℕ) → first ≤ k → index.ready k ≡ false) → NoEnterIsDue t }
+    ensures releases { (t u : Trace) (first : ℕ) (index : Index) (c k : ℕ) → IsRun u → IsIndexed (play u) first (state u) index → ReleasesBefore t u c → c ≤ suc k
+        → ((j : ℕ) → first ≤ j → j < k → index.restless j ≡ false) → ReleasesBefore t u (suc k) }
+    ensures released { (t u : Trace) (first : ℕ) (index : Index) (c : ℕ) → IsRun u → IsIndexed (play u) first (state u) index → ReleasesBefore t u c
+        → ((j : ℕ) → first ≤ j → index.restless j ≡ false) → ReleasesAll t u }
+    ensures ends { (t u : Trace) (first : ℕ) (index : Index) (c k : ℕ) → IsIndexed (play u) first (state u) index → EndsBefore t u c → c ≤ suc k
+        → ((j : ℕ) → first ≤ j → j < k → index.closing j ≡ false) → EndsBefore t u (suc k) }
+    ensures ended { (t u : Trace) (first : ℕ) (index : Index) (c : ℕ) → IsIndexed (play u) first (state u) index → EndsBefore t u c
+        → ((j : ℕ) → first ≤ j → index.closing j ≡ false) → EndsAll t u }
 {}

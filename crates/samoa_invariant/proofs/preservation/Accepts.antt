@@ -14,8 +14,8 @@ use Rattle.samoa_model.specs.declared.handler.Outcome.{Outcome}
 use Rattle.samoa_model.specs.declared.handler.Refusal.{Refusal}
 use Rattle.samoa_serial.specs.declared.call.Waiting.{Waiting}
 use Rattle.samoa_model.specs.Allowed.{Attempt, attempt_all, bound_in, declares, first_refusal, form_refuses, handlers_at, or_next, refusal_of, unless_refused, weight}
-use Rattle.samoa_serial.specs.World.{Attempts, attempts_of, calls_from, handler_of}
-use Rattle.samoa_serial.specs.Calls.{Computation, take_outcome, take_outcome_at, to_begin}
+use Rattle.samoa_serial.specs.World.{Attempts, attempts_of, handler_of}
+use Rattle.samoa_serial.specs.Calls.{Computation, take_outcome, take_outcome_at}
 use Rattle.samoa_serial.specs.Alone.{next_at, next_of, next_step}
 use Rattle.samoa_model.specs.Scripts.{resolve, Table}
 use Rattle.samoa_model.specs.Entries.{calls_at}

@@ -170,7 +170,7 @@ release_keeps P core k p meets i can =
       out_kept = λ q ne e. let o : IsOutRightly P core (P.node k) q k = i.out (P.node k) q k e in o.next;
     })
 
-ends_call-most : (o : Outcome) → ends_call o ≤ suc zero
+pub ends_call-most : (o : Outcome) → ends_call o ≤ suc zero
 ends_call-most (Outcome.Done reply) = omega arith
 ends_call-most (Outcome.Call event arg frame) = omega arith
 ends_call-most (Outcome.Later event arg frame) = omega arith
@@ -178,7 +178,7 @@ ends_call-most (Outcome.Send to event arg frame) = omega arith
 ends_call-most (Outcome.Deliver arg frame) = omega arith
 ends_call-most (Outcome.Change change arg frame) = omega arith
 
-if_most : (b : Bool) (x : ℕ) → x ≤ suc zero → (if b then x else zero) ≤ suc zero
+pub if_most : (b : Bool) (x : ℕ) → x ≤ suc zero → (if b then x else zero) ≤ suc zero
 if_most true x le = le
 if_most false x le = omega arith
 

@@ -142,6 +142,33 @@ releases_of-open_later t (x ∷ xs) c m d q run due each lt new =
     one (Step.Release b p) can is later = earlier b p is.0 (release-opens t b p d q run can later)
     one y can is later = absurd is
 
+-- so where none of an earlier computation was due, none is after all those of this one
+pub releases_of-settle : (t u : Trace) (c m : ℕ) → IsRun t → ReleasesOf t u c m → ((p : ℕ) → m ≤ p → IsDue u (Step.Release c p) → ⊥)
+    → ((j p : ℕ) → j < c → IsDue t (Step.Release j p) → ⊥) → (j p : ℕ) → j ≤ c → IsDue u (Step.Release j p) → ⊥
+releases_of-settle t u c m run r not_due none j p le due = go (cases_eq j c)
+  where
+    own : (q : ℕ) → IsDue u (Step.Release c q) → (q < m) ⊎ (m ≤ q) → ⊥
+    own q now (inl lt) = r.none q lt now
+    own q now (inr from) = not_due q from now
+
+    go : (j ≡ c) ⊎ (j ≢ c) → ⊥
+    go (inl e) = own p (subst (λ (k : ℕ). IsDue u (Step.Release k p)) e due) (cases_lt p m)
+    go (inr ne) =
+        none j p (omega arith)
+        (releases_of-open_later t r.steps c m j p run r.due r.releases (omega arith) (subst (λ (w : Trace). IsDue w (Step.Release j p)) r.made due))
+
+-- where none of a computation is due, none of it is made
+pub releases_of-nothing : (t u : Trace) (c m : ℕ) → ReleasesOf t u c m → ((p : ℕ) → IsDue t (Step.Release c p) → ⊥) → u ≡ t
+releases_of-nothing t u c m r none = r.made ∙ go r.steps r.due r.releases
+  where
+    one : (x : Step) → IsDue t x → IsReleaseOf c m x → ⊥
+    one (Step.Release d p) due is = none p (subst (λ (k : ℕ). IsDue t (Step.Release k p)) is.0 due)
+    one x due is = is
+
+    go : (xs : List Step) → AreDue t xs → All (IsReleaseOf c m) xs → with_steps t xs ≡ t
+    go [] due is = with-none t
+    go (x ∷ xs) due is = absurd (one x due.0 (All-head (IsReleaseOf c m) x xs is))
+
 -- the releases of the computations before one
 pub releases_before-none : (t : Trace) (c : ℕ) → ((j p : ℕ) → j < c → IsDue t (Step.Release j p) → ⊥) → ReleasesBefore t t c
 releases_before-none t c not_due = record {
@@ -194,6 +221,21 @@ releases_before-make t u v c m run a b not_due = record {
     go j p lt due (inr ne) =
         a.none j p (omega arith)
         (releases_of-open_later u b.steps c m j p now b.due b.releases (omega arith) (subst (λ (w : Trace). IsDue w (Step.Release j p)) b.made due))
+
+-- computations of which no release is due are passed over
+pub releases_before-skip : (t u : Trace) (c d : ℕ) → ReleasesBefore t u c → c ≤ d → ((j p : ℕ) → c ≤ j → j < d → IsDue u (Step.Release j p) → ⊥) → ReleasesBefore t u d
+releases_before-skip t u c d r le not_due = record {
+  steps = r.steps;
+  made = r.made;
+  due = r.due;
+  releases = All-weaker (IsReleaseBefore c) (IsReleaseBefore d) (before-more c d le) r.steps r.releases;
+  rising = r.rising;
+  none = λ j p lt. at j p lt (cases_lt j c);
+}
+  where
+    at : (j p : ℕ) → j < d → (j < c) ⊎ (c ≤ j) → IsDue u (Step.Release j p) → ⊥
+    at j p lt (inl before) = r.none j p before
+    at j p lt (inr from) = not_due j p from lt
 
 release-kind : (c : ℕ) (x : Step) → IsReleaseBefore c x → IsRelease x
 release-kind c (Step.Release j p) is = tt
