@@ -1,11 +1,13 @@
-//! The lines of faults.
+//! The lines of faults, and the line of a generated script.
 ghost use Rattle.std.specs.Prelude.{◌≡◌, ◌++◌, codes, decimal, IfOk, OnOk};
 ghost use Rattle.samoa_run.specs.Due.{fault_line as line_of, fault_text, few_cells};
+ghost use Rattle.samoa_run.specs.Made.{counts_line};
 ghost use Rattle.samoa_run.specs.Replays.{replay_line as line_of_replay};
 
 use itoa::Buffer;
 use samoa_model::{Name, NoMemory};
 use samoa_script::ScriptFault;
+use samoa_ticks::Totals;
 use std::alloc::Global;
 
 /// The line of a script's fault.
@@ -41,6 +43,26 @@ pub fn replay_line(alloc: Global, cause: &[u8], at: u32) -> Result<Vec<u8>, NoMe
     push(cause, &mut line)?;
     push(b" ", &mut line)?;
     push(Buffer::new().format(at).as_bytes(), &mut line)?;
+    push(b"\n", &mut line)?;
+    Ok(line)
+}
+
+/// The line of a generated script: its number, and how many computations, deliveries and refusals there were.
+pub fn totals_line(alloc: Global, n: u32, totals: Totals) -> Result<Vec<u8>, NoMemory>
+    ensures { IfOk result (λ line. line.items ≡ counts_line n totals.comps totals.deliveries totals.refusals) }
+{
+    let mut line = Vec::new(alloc);
+    push(b"G ", &mut line)?;
+    push(Buffer::new().format(n).as_bytes(), &mut line)?;
+    push(b" ", &mut line)?;
+    push(Buffer::new().format(totals.comps).as_bytes(), &mut line)?;
+    push(b" ", &mut line)?;
+    push(
+        Buffer::new().format(totals.deliveries).as_bytes(),
+        &mut line,
+    )?;
+    push(b" ", &mut line)?;
+    push(Buffer::new().format(totals.refusals).as_bytes(), &mut line)?;
     push(b"\n", &mut line)?;
     Ok(line)
 }
