@@ -53,16 +53,13 @@ pub fn totals_line(alloc: Global, n: u32, totals: Totals) -> Result<Vec<u8>, NoM
 {
     let mut line = Vec::new(alloc);
     push(b"G ", &mut line)?;
-    push(Buffer::new().format(n).as_bytes(), &mut line)?;
+    push_number(u64::from(n), &mut line)?;
     push(b" ", &mut line)?;
-    push(Buffer::new().format(totals.comps).as_bytes(), &mut line)?;
+    push_number(u64::from(totals.comps), &mut line)?;
     push(b" ", &mut line)?;
-    push(
-        Buffer::new().format(totals.deliveries).as_bytes(),
-        &mut line,
-    )?;
+    push_number(totals.deliveries, &mut line)?;
     push(b" ", &mut line)?;
-    push(Buffer::new().format(totals.refusals).as_bytes(), &mut line)?;
+    push_number(totals.refusals, &mut line)?;
     push(b"\n", &mut line)?;
     Ok(line)
 }
@@ -95,6 +92,12 @@ fn push_over(name: &Name, limit: u64, line: &mut Vec<u8>) -> Result<(), NoMemory
     push_named(b"Over ", name, line)?;
     push(b" ", line)?;
     push(Buffer::new().format(limit).as_bytes(), line)
+}
+
+fn push_number(number: u64, line: &mut Vec<u8>) -> Result<(), NoMemory>
+    ensures { OnOk result (line.new.items ≡ line.old.items ++ decimal number) }
+{
+    push(Buffer::new().format(number).as_bytes(), line)
 }
 
 fn push(text: &[u8], line: &mut Vec<u8>) -> Result<(), NoMemory>
