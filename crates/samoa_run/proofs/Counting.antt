@@ -1,7 +1,7 @@
 -- The line of a generated script.
-use Rattle.std.proofs.Common.{◌≡◌, ◌∙◌, ℕ, ap, length, subst}
+use Rattle.std.proofs.Common.{◌≡◌, ◌∙◌, ℕ, ap, length}
 use Rattle.samoa_model.specs.declared.script.Script.{Script}
-use Rattle.samoa_serial.specs.Report.{entries_of_sort, is_delivery, is_refusal}
+use Rattle.samoa_serial.specs.Report.{entries_of_sort, is_delivery}
 use Rattle.samoa_serial.specs.SerialRun.{serial}
 use Rattle.samoa_serial.specs.Ticks.{admitted}
 use Rattle.samoa_ledger.specs.declared.totals.Totals.{Totals}
