@@ -12,8 +12,8 @@ use std::alloc::Global;
 pub const MOST_GENERATED: u32 = 600;
 
 /// The script that is generated for a number from 1 to 600: the group stack on eight nodes. They cast `n` messages, one each
-/// eighth tick, so that each is delivered everywhere before the next; then node 0 casts the change of the broadcast to the
-/// sequencer; and they cast `n` messages more, one each tick. There are no losses and no crashes.
+/// eighth tick; then node 0 casts the change of the broadcast to the sequencer; and they cast `n` messages more, one each
+/// tick. There are no losses and no crashes.
 pub fn generate(alloc: Global, n: u32) -> Result<Script, NoMemory>
     requires some { 1 ≤ n }
     requires most { n ≤ MOST_GENERATED }
