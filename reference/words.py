@@ -1,6 +1,7 @@
 """The words of the command line, and what is answered to them (docs/REPORT.md)."""
 import re
 
+from generated import MOST_GENERATED, made_line
 from journal import ReplayFault, check_journal, journal_text, read_steps, run_one_worker
 from report import report
 from script import Fault, canonical, cells_needed, read_script
@@ -26,7 +27,11 @@ def plain_number(text, least, limit):
 
 
 def read_words(words):
-    """The first word, and the options by name."""
+    """The first word, and the options by name; for `make` its number."""
+    if words and words[0] == "make":
+        if len(words) != 2:
+            raise Usage()
+        return "make", {"n": plain_number(words[1], 1, MOST_GENERATED)}
     if not words or words[0] not in FLAGS:
         raise Usage()
     word, rest = words[0], list(words[1:])
@@ -50,6 +55,8 @@ def answer(words, data):
         word, options = read_words(words)
     except Usage:
         return b"! usage\n", 2
+    if word == "make":
+        return made_line(options["n"]).encode(), 0
     if callable(data):
         data = data()
     try:

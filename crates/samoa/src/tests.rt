@@ -120,7 +120,7 @@ fn answer_behind<R: Wait + Threads + Sync, G: Gate + Sync>(
 #[test]
 fn answers_words(rt: HostRuntime) -> Result<(), Fail> {
     let alloc = rt.alloc();
-    let cases: [(&[&str], &str, u8, &str); 13] = [
+    let cases: [(&[&str], &str, u8, &str); 20] = [
         (&[], COUNTER, 2, "! usage\n"),
         (&["run", "--call"], COUNTER, 2, "! usage\n"),
         (&["run", "--workers", "0"], COUNTER, 2, "! usage\n"),
@@ -133,6 +133,13 @@ fn answers_words(rt: HostRuntime) -> Result<(), Fail> {
             "E 1 1 0 e 7\nD 1 c 7\nZ 1 ok 7\nS 0 c 7 0 0 0\nN 1 1 0\nJ 7\na 1\ne 1 0\nl 1\ne 1 0\nl 1\nr 1 0\nn 1\n",
         ),
         (&["check", "--calls"], COUNTER, 2, "! usage\n"),
+        (&["make", "1"], COUNTER, 0, "G 1 324 16 0\n"),
+        (&["make"], COUNTER, 2, "! usage\n"),
+        (&["make", "0"], COUNTER, 2, "! usage\n"),
+        (&["make", "01"], COUNTER, 2, "! usage\n"),
+        (&["make", "601"], COUNTER, 2, "! usage\n"),
+        (&["make", "1", "--calls"], COUNTER, 2, "! usage\n"),
+        (&["--calls", "make"], COUNTER, 2, "! usage\n"),
         (&["--help"], COUNTER, 2, "! usage\n"),
         (&["run"], "", 3, "! script NotJson\n"),
         (

@@ -12,7 +12,7 @@ mod streams;
 #[cfg(test)]
 mod tests;
 
-pub use memory::{MemSink, MemSource};
+pub use memory::{MemSink, MemSource, NoSink};
 pub use streams::{StdSink, StdSource};
 
 /// A read or a write failed.

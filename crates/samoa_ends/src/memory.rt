@@ -1,5 +1,5 @@
-//! Ends in memory, for tests and for callers that hold the bytes.
-ghost use Rattle.std.specs.Prelude.{◌≡◌, ◌⊎◌, ◌↔◌, ◌≤◌, ◌<◌, ◌+◌, [], length, vec_len, vec_capacity, Contains, IsErr, IfOk, OnOk, OnErr, IsTrue, Some, min, take};
+//! Ends in memory, for tests and for callers that hold the bytes, and a sink that keeps nothing.
+ghost use Rattle.std.specs.Prelude.{◌≡◌, ◌⊎◌, ◌↔◌, ◌≤◌, ◌<◌, ◌+◌, [], length, vec_len, vec_capacity, Contains, IsErr, IfOk, OnOk, OnErr, IsTrue, None, Ok, Some, min, take};
 ghost use Rattle.std.specs.Io.{ReadsAtMost};
 ghost use Rattle.std.specs.Io.KnownBytes.{ReadConsumes, WriteAppends};
 ghost use Rattle.samoa_ends.specs.Causes.{HasCause};
@@ -146,6 +146,26 @@ impl Sink for MemSink {
         }
         self.bytes.extend_from_slice(piece).unwrap();
         self.room -= piece.len();
+        Ok(piece.len())
+    }
+}
+
+/// A sink that keeps nothing of what it is given, and never fails. It tells no bytes.
+#[derive(Clone, Copy, Debug, PartialEq, Eq)]
+pub struct NoSink;
+
+impl Sink for NoSink {
+    ghost written = { λ _. None };
+
+    ghost faults = { λ _. 0 };
+
+    fn write(&mut self, piece: &[u8]) -> Result<usize, Failed>
+        requires { 0 < length piece.now }
+        ensures bound { TakesSome result piece.now }
+        ensures bytes { WriteAppends None None result piece.now }
+        ensures cause { HasCause 0 0 result }
+        ensures whole { result ≡ Ok (length piece.now) }
+    {
         Ok(piece.len())
     }
 }

@@ -1,4 +1,4 @@
-use crate::{Failed, MemSink, MemSource, Sink, Source, StdSink, StdSource};
+use crate::{Failed, MemSink, MemSource, NoSink, Sink, Source, StdSink, StdSource};
 use samoa_model::NoMemory;
 use std::alloc::Global;
 use std::io::{self, Error, ErrorKind, Read, Write};
@@ -106,5 +106,12 @@ fn writes(rt: HostRuntime) -> Result<(), Fail> {
     let failing = four_writes(alloc, &mut second)?;
     assert_eq!(rt; failing.as_slice(), b"-!!!".as_slice());
     assert_eq!(rt; second.flush(), Err(Failed));
+    Ok(())
+}
+
+#[test]
+fn keeps_nothing(rt: HostRuntime) -> Result<(), Fail> {
+    let mut sink = NoSink;
+    assert_eq!(rt; sink.write(b"abc"), Ok(3));
     Ok(())
 }

@@ -1,6 +1,7 @@
 pub mod Accepted
 pub mod Obeying
 pub mod Replays
+pub mod Counting
 pub mod OneLine
 pub mod OneOrder
 pub mod OneWord

@@ -25,6 +25,7 @@ use Rattle.samoa_laws.proofs.text.Texts.{Plain, both, literal, number as number_
 use Rattle.samoa_run.specs.declared.words.Order.{Order}
 use Rattle.samoa_run.specs.declared.words.Order.TheVariants.{Run, Serial, Check}
 use Rattle.samoa_run.specs.Due.{IsBegun, IsOutput, IsRunOutput, canonical_text, few_cells, has_cells, turned_away_line}
+use Rattle.samoa_run.specs.Made.{counts_line, line_for, made_line}
 use Rattle.samoa_run.specs.Replays as replays
 use Rattle.samoa_run.specs.Replays.{IsDueFor, IsDueForJournal, IsDueForSteps, Replays, Replies, bad_line, complete, faulty, in_lines, journal_fault_line, journal_part, refused, replay_line, script_part, silent, told, too_long}
 use Rattle.samoa_run.specs.Serving.{Answers, AnswersOne, Ends, IsDueOrFailed, Obeys}
@@ -123,6 +124,31 @@ pub usage_order : {status : ℕ} {old new : Option (List ℕ)} (input : List ℕ
 usage_order {status} {old} {new} input script answers held group =
     let mute : IsMute (codes "! usage\n") = mute_begun 33 (codes " usage") (refl, (refl, (refl, refl))) (literal (codes "! usage") refl) in
     mute_answers_order script group (held_valid input script held).in_range old new (codes "! usage\n") mute answers
+
+-- ---- the line of a generated script
+counts_mute : (n comps deliveries refusals : ℕ) → IsMute (counts_line n comps deliveries refusals)
+counts_mute n comps deliveries refusals =
+    let last : List ℕ = codes " " ++ decimal refusals in
+    let some : List ℕ = codes " " ++ (decimal deliveries ++ last) in
+    let most : List ℕ = codes " " ++ (decimal comps ++ some) in
+    let rest : List ℕ = codes " " ++ (decimal n ++ most) in
+    let ending : Plain last = both space (number_plain refusals) in
+    let plain : Plain (71 ∷ rest) = both (literal (codes "G ") refl) (both (number_plain n) (both space (both (number_plain comps) (both space (both (number_plain deliveries) ending))))) in
+    let same : 71 ∷ (rest ++ codes "\n") ≡ counts_line n comps deliveries refusals =
+    ap (λ (t : List ℕ). codes "G " ++ t)
+    (append_assoc (decimal n) most (codes "\n")
+    ∙ ap (λ (t : List ℕ). decimal n ++ (codes " " ++ t))
+    (append_assoc (decimal comps) some (codes "\n") ∙ ap (λ (t : List ℕ). decimal comps ++ (codes " " ++ t)) (append_assoc (decimal deliveries) last (codes "\n")))) in
+    subst IsMute same (mute_begun 71 rest (refl, (refl, (refl, refl))) plain)
+
+made_mute : (n : ℕ) → IsMute (made_line n)
+unfolding line_for
+made_mute n = counts_mute n _ _ _
+
+pub made_order : {status : ℕ} {old new : Option (List ℕ)} (n : ℕ) (input : List ℕ) (script : Script) → Answers 0 (made_line n) old new status → Holds input script
+    → IsGroup script → AppendsOneOrder old new
+made_order {status} {old} {new} n input script answers held group =
+    mute_answers_order script group (held_valid input script held).in_range old new (made_line n) (made_mute n) answers
 
 -- ---- a replay
 replay_mute : (cause : List ℕ) (at : ℕ) → Plain cause → IsMute (replay_line cause at)

@@ -6,3 +6,4 @@ pub mod Readings
 pub mod Serving
 pub mod Runs
 pub mod Replays
+pub mod Made

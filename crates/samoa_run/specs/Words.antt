@@ -1,5 +1,6 @@
 -- The words of the command line, and what they ask for.
 use Rattle.std.specs.Prelude.{ℕ, ◌≡◌, ◌≤◌, ◌+◌, ◌*◌, ◌-◌, Bool, true, false, ◌&&◌, ◌||◌, not, List, [], ◌∷◌, nat_le, codes, bytes_eq, Option, Some, None, is_none, is_some, IfSome, option_map, option_and_then, if◌then◌else◌}
+use Rattle.samoa_generate.specs.declared.script.TheConstants.{MOST_GENERATED}
 use Rattle.samoa_run.specs.declared.words.TheConstants.{CELLS, MOST_CELLS, MOST_WORKERS, WORKERS}
 use Rattle.samoa_run.specs.declared.words.Numbered.{Numbered}
 use Rattle.samoa_run.specs.declared.words.Numbered.TheVariants.{Cells, Workers}
@@ -93,9 +94,16 @@ is_replay [] = false
 is_replay (word ∷ []) = bytes_eq word (codes "replay")
 is_replay (word ∷ option ∷ rest) = false
 
+-- the number of the generated script that the words ask to be made, from 1 to 600, which is no order
+abbrev pub made_in : List (List ℕ) → Option ℕ
+made_in [] = None
+made_in (word ∷ []) = None
+made_in (word ∷ number ∷ []) = if bytes_eq word (codes "make") then number_in MOST_GENERATED number else None
+made_in (word ∷ number ∷ option ∷ rest) = None
+
 -- the words ask for nothing
 abbrev pub AreOther : List (List ℕ) → Type 0
-AreOther words = (order_in words ≡ None) × (is_replay words ≡ false)
+AreOther words = (order_in words ≡ None) × (is_replay words ≡ false) × (made_in words ≡ None)
 
 -- the order that `serve_serial` takes
 abbrev pub serial_only : Order → Option Order

@@ -1,11 +1,13 @@
-//! The lines of faults.
+//! The lines of faults, and the line of a generated script.
 ghost use Rattle.std.specs.Prelude.{◌≡◌, ◌++◌, codes, decimal, IfOk, OnOk};
 ghost use Rattle.samoa_run.specs.Due.{fault_line as line_of, fault_text, few_cells};
+ghost use Rattle.samoa_run.specs.Made.{counts_line};
 ghost use Rattle.samoa_run.specs.Replays.{replay_line as line_of_replay};
 
 use itoa::Buffer;
 use samoa_model::{Name, NoMemory};
 use samoa_script::ScriptFault;
+use samoa_ticks::Totals;
 use std::alloc::Global;
 
 /// The line of a script's fault.
@@ -45,6 +47,23 @@ pub fn replay_line(alloc: Global, cause: &[u8], at: u32) -> Result<Vec<u8>, NoMe
     Ok(line)
 }
 
+/// The line of a generated script: its number, and how many computations, deliveries and refusals there were.
+pub fn totals_line(alloc: Global, n: u32, totals: Totals) -> Result<Vec<u8>, NoMemory>
+    ensures { IfOk result (λ line. line.items ≡ counts_line n totals.comps totals.deliveries totals.refusals) }
+{
+    let mut line = Vec::new(alloc);
+    push(b"G ", &mut line)?;
+    push_number(u64::from(n), &mut line)?;
+    push(b" ", &mut line)?;
+    push_number(u64::from(totals.comps), &mut line)?;
+    push(b" ", &mut line)?;
+    push_number(totals.deliveries, &mut line)?;
+    push(b" ", &mut line)?;
+    push_number(totals.refusals, &mut line)?;
+    push(b"\n", &mut line)?;
+    Ok(line)
+}
+
 fn push_fault(fault: &ScriptFault, line: &mut Vec<u8>) -> Result<(), NoMemory>
     ensures { OnOk result (line.new.items ≡ line.old.items ++ fault_text fault.now) }
 {
@@ -73,6 +92,12 @@ fn push_over(name: &Name, limit: u64, line: &mut Vec<u8>) -> Result<(), NoMemory
     push_named(b"Over ", name, line)?;
     push(b" ", line)?;
     push(Buffer::new().format(limit).as_bytes(), line)
+}
+
+fn push_number(number: u64, line: &mut Vec<u8>) -> Result<(), NoMemory>
+    ensures { OnOk result (line.new.items ≡ line.old.items ++ decimal number) }
+{
+    push(Buffer::new().format(number).as_bytes(), line)
 }
 
 fn push(text: &[u8], line: &mut Vec<u8>) -> Result<(), NoMemory>

@@ -4,6 +4,7 @@
 mod answer;
 mod fault;
 mod laws;
+mod making;
 mod obey;
 mod reading;
 mod replaying;

@@ -80,9 +80,9 @@ pub fn run_to_status<R: Wait + Threads + Sync, K: Sink, G: Gate + Sync, B: Micro
     let (core, ended) = run_on_workers(rt, alloc, script, core, workers, calls, sink, gate);
     match ended {
         Err(stop) => (core, status_of(Err(stop))),
-        Ok(limited) if !journal => (core, status_of(Ok(limited))),
-        Ok(limited) => match write_journal(alloc, core.journal(), sink) {
-            Ok(()) => (core, status_of(Ok(limited))),
+        Ok(ended) if !journal => (core, status_of(Ok(ended.limited))),
+        Ok(ended) => match write_journal(alloc, core.journal(), sink) {
+            Ok(()) => (core, status_of(Ok(ended.limited))),
             Err(stop) => (core, status_of(Err(stop))),
         },
     }

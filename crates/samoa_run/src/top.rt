@@ -11,16 +11,18 @@ ghost use Rattle.samoa_laws.specs.text.Clause.{AppendsOneOrder};
 ghost use Rattle.samoa_micro.specs.Stocks.{HasEnough};
 ghost use Rattle.samoa_run.specs.declared.words.Order.{Order as OrderValue};
 ghost use Rattle.samoa_run.specs.Due.{IsRunOutput, run_status};
+ghost use Rattle.samoa_run.specs.Made.{made_line};
 ghost use Rattle.samoa_run.specs.Serving.{Answers, AnswersOne, Obeys};
 ghost use Rattle.samoa_run.specs.Statuses.{number};
 ghost use Rattle.samoa_run.specs.Replays.{Replays, script_text};
-ghost use Rattle.samoa_run.specs.Words.{AreNoCheck, AreOther, is_replay, order_in as order_of, check_only as only_check, serial_only as only_serial};
+ghost use Rattle.samoa_run.specs.Words.{AreNoCheck, AreOther, is_replay, made_in, order_in as order_of, check_only as only_check, serial_only as only_serial};
 
 use crate::answer::write_text;
+use crate::making::make;
 use crate::obey::{obey, obey_check, obey_serial};
 use crate::replaying::obey_replay;
 use crate::status::Status;
-use crate::words::{Order, asks_replay, order_in};
+use crate::words::{Order, asks_replay, number_to_make, order_in};
 use samoa_ends::{Sink, Source};
 use samoa_micro::{Micro, Stock};
 use samoa_workers::Gate;
@@ -37,6 +39,7 @@ use std::thread::Threads;
 /// | `serial [--calls]` | the same, one computation after another |
 /// | `check` | reads a script, and writes its canonical text and a line feed |
 /// | `replay` | reads a script on one line and the lines of a journal after it, checks the journal, and writes the report |
+/// | `make n` | runs the generated script of n, 1 to 600, by 4 workers and with 65,536 cells, and writes the line `G n comps deliveries refusals`; it reads nothing |
 ///
 /// The source is read to its end, or to one byte past 1,048,576; for a replay, past 16,777,216. A run has as many computations open at once as its cells
 /// are enough for (1 to 1,048,576, and 65,536 where none are given): 16 for each unit of a budget, and 16 more. The number
@@ -47,7 +50,7 @@ use std::thread::Threads;
 ///
 /// | Status | Comes | What is written |
 /// |---|---|---|
-/// | 0 | all was done and written, and the limit didn't end the run | the report, and the journal where asked, or the text |
+/// | 0 | all was done and written, and the limit didn't end the run | the report, and the journal where asked, or the text, or the line |
 /// | 2 | the words are others | `! usage` |
 /// | 3 | the script has a fault, or the input is too long, or the cells are too few | the fault line |
 /// | 4 | a read failed | nothing |
@@ -98,6 +101,13 @@ pub fn serve<R: Wait + Threads + Sync, S: Source, K: Sink, G: Gate + Sync, B: Mi
     ensures one_order { (input : List ℕ) (script : ScriptValue) → S.left source.old ≡ Some input → Holds (script_text (map string_bytes words.now) input) script → IsGroup script
         → AppendsOneOrder (K.written sink.old) (K.written sink.new) }
 
+    // The words ask for the generated script of a number to be made: the line that counts what it admits, and the deliveries
+    // and refusals of their serial run, is written. Nothing is read.
+    ensures made { (n : ℕ) → made_in (map string_bytes words.now) ≡ Some n
+        → Answers 0 (made_line n) (K.written sink.old) (K.written sink.new) result }
+    ensures made_untouched { (n : ℕ) → made_in (map string_bytes words.now) ≡ Some n
+        → ((result ≡ 0) ⊎ ((result ≡ 5) ⊎ (result ≡ 6))) × (source.new ≡ source.old) }
+
     // The words are others: the fault line, nothing is read, and no memory is taken.
     ensures usage { AreOther (map string_bytes words.now)
         → Answers 2 (codes "! usage\n") (K.written sink.old) (K.written sink.new) result }
@@ -108,6 +118,9 @@ pub fn serve<R: Wait + Threads + Sync, S: Source, K: Sink, G: Gate + Sync, B: Mi
 {
     if asks_replay(words) {
         return obey_replay(alloc, source, sink, stock).number();
+    }
+    if let Some(n) = number_to_make(words) {
+        return make(rt, alloc, n, sink, stock, gate).number();
     }
     match order_in(words) {
         Some(order) => obey(rt, alloc, order, source, sink, stock, gate).number(),

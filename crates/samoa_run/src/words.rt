@@ -1,6 +1,8 @@
 //! The words of the command line.
-ghost use Rattle.std.specs.Prelude.{◌≡◌, ◌≤◌, map, string_bytes, IfSome, None, Some, true};
-ghost use Rattle.samoa_run.specs.Words.{HasNumbers, HasRanges, is_replay, order_in, run_with as run_of, serial_with as serial_of, when_alone as alone, options_in as options_of, options_from as options_after, with_word as after_word, with_option as after_option, with_number as after_number, unless_awaiting as unless_awaited, number_in as number_of, number_from as number_after};
+ghost use Rattle.std.specs.Prelude.{◌≡◌, ◌≤◌, map, string_bytes, IfSome, IsSome, None, Some, true, false};
+ghost use Rattle.samoa_run.specs.Words.{HasNumbers, HasRanges, is_replay, made_in, order_in, run_with as run_of, serial_with as serial_of, when_alone as alone, options_in as options_of, options_from as options_after, with_word as after_word, with_option as after_option, with_number as after_number, unless_awaiting as unless_awaited, number_in as number_of, number_from as number_after};
+
+use samoa_script::MOST_GENERATED;
 
 /// What the words ask for.
 #[derive(Clone, Copy, Debug, PartialEq, Eq)]
@@ -81,6 +83,21 @@ pub fn asks_replay(words: &[String]) -> bool
     match words {
         [word] => word.as_str() == "replay",
         _ => false,
+    }
+}
+
+/// The number of the generated script that the words ask to be made, if they ask for that.
+pub fn number_to_make(words: &[String]) -> Option<u32>
+    ensures number { result ≡ made_in (map string_bytes words.now) }
+    ensures range { IfSome result (λ n. (1 ≤ n) × (n ≤ MOST_GENERATED)) }
+    ensures no_order { IsSome result → order_in (map string_bytes words.now) ≡ None }
+    ensures no_replay { IsSome result → is_replay (map string_bytes words.now) ≡ false }
+{
+    match words {
+        [word, number] if word.as_str() == "make" => {
+            number_in(MOST_GENERATED, number.as_str().as_bytes())
+        }
+        _ => None,
     }
 }
 

@@ -9,6 +9,7 @@ mod ticks;
 mod writing;
 
 pub use journal::write_journal;
+pub use samoa_ledger::Totals;
 pub use stop::Stop;
-pub use ticks::{run_on_workers, run_one_by_one};
+pub use ticks::{Ended, run_on_workers, run_one_by_one};
 pub use writing::write_lines;

@@ -153,6 +153,13 @@ impl Report {
         &self.batch[self.next..]
     }
 
+    /// The totals of what has ended.
+    pub fn totals(&self) -> Totals
+        ensures { result ≡ self.now.totals }
+    {
+        self.totals
+    }
+
     /// Of so many computations, how many may be open together.
     fn most(&self, count: usize) -> usize
         ensures { result ≡ (if self.now.alone then 1 else count) }

@@ -4,11 +4,12 @@ ghost use Rattle.std.specs.Io.KnownBytes.{Appends};
 ghost use Rattle.samoa_model.specs.Cells.{need};
 ghost use Rattle.samoa_model.specs.Range.{IsInRange};
 ghost use Rattle.samoa_serial.specs.LimitedReport.{report_in_full};
-ghost use Rattle.samoa_serial.specs.Ticks.{is_limited};
+ghost use Rattle.samoa_serial.specs.Ticks.{admitted, is_limited};
 ghost use Rattle.samoa_ends.specs.Pieces.{AppendsPrefix};
 ghost use Rattle.samoa_invariant.specs.Runs.{opening_trace};
 ghost use Rattle.samoa_journal.specs.Finished.{IsFinished, most_cells};
 ghost use Rattle.samoa_journal.specs.Parts.{IsPacked};
+ghost use Rattle.samoa_ledger.specs.Written.{AreTotals};
 ghost use Rattle.samoa_ticks.specs.Stops.{StopsFor};
 
 use crate::report::Report;
@@ -16,6 +17,7 @@ use crate::running::{run_to_end, work_to_end};
 use crate::stop::Stop;
 use samoa_core::Core;
 use samoa_ends::Sink;
+use samoa_ledger::Totals;
 use samoa_micro::Micro;
 use samoa_model::Script;
 use samoa_workers::Gate;
@@ -23,6 +25,14 @@ use std::alloc::Global;
 use std::marker::Send;
 use std::sync::Wait;
 use std::thread::Threads;
+
+/// How a run ended: whether the limit of computations ended it, and how many computations, deliveries and refusals there
+/// were.
+#[derive(Clone, Copy, Debug, PartialEq, Eq)]
+pub struct Ended {
+    pub limited: bool,
+    pub totals: Totals,
+}
 
 /// Runs a script, one computation after another on the calling thread, in a core that was made for it and has made no step,
 /// and writes its report, with the lines of calls where `calls` is given. Answers whether the limit of computations ended
@@ -59,7 +69,8 @@ pub fn run_one_by_one<B: Micro, K: Sink>(
 
 /// Runs a script on workers behind a gate, in a core that was made for it and has made no step, and writes its report, with
 /// the lines of calls where `calls` is given. No more workers work than there are computations, and one of them works on
-/// the calling thread. Gives the core back, and answers whether the limit of computations ended the run. It may wait.
+/// the calling thread. Gives the core back, and answers whether the limit of computations ended the run, with the totals of
+/// all that was admitted. It may wait.
 pub fn run_on_workers<B: Micro + Send, K: Sink, G: Gate + Sync, R: Threads + Wait + Sync>(
     rt: &R,
     alloc: Global,
@@ -69,7 +80,7 @@ pub fn run_on_workers<B: Micro + Send, K: Sink, G: Gate + Sync, R: Threads + Wai
     calls: bool,
     sink: &mut K,
     gate: &G,
-) -> (Core<B>, Result<bool, Stop>)
+) -> (Core<B>, Result<Ended, Stop>)
     requires in_range { IsInRange script.now }
     requires unused { core ≡ opening_trace script.now core.cells }
     requires room { need script.now ≤ core.cells }
@@ -77,7 +88,9 @@ pub fn run_on_workers<B: Micro + Send, K: Sink, G: Gate + Sync, R: Threads + Wai
     requires few { workers ≤ 64 }
     ensures all { OnOk result.1 (Appends (K.written sink.old) (K.written sink.new) (report_in_full script.now calls)) }
     ensures part { OnErr result.1 (AppendsPrefix (K.written sink.old) (K.written sink.new) (report_in_full script.now calls)) }
-    ensures limited { IfOk result.1 (λ limited. limited ≡ is_limited script.now) }
+    ensures limited { IfOk result.1 (λ ended. ended.limited ≡ is_limited script.now) }
+    // As the line of the totals counts them, also where the limit ended the run and there is no such line.
+    ensures counted { IfOk result.1 (λ ended. AreTotals script.now (admitted script.now) ended.totals) }
     // The journal is a whole run of all that the script admits, in parts of which each is the longest prefix of what was
     // left of its tick that fits the cells.
     ensures finished { OnOk result.1 (core.cells ≤ most_cells → IsFinished script.now result.0.journal) }
@@ -107,8 +120,9 @@ pub fn run_on_workers<B: Micro + Send, K: Sink, G: Gate + Sync, R: Threads + Wai
         }
     }
     let _all = core.admitted();
+    let totals = report.totals();
     match report.finish(script, &core, sink) {
-        Ok(limited) => (core, Ok(limited)),
+        Ok(limited) => (core, Ok(Ended { limited, totals })),
         Err(stop) => (core, Err(stop)),
     }
 }

@@ -1,0 +1,4 @@
+mod Casts
+mod Listing
+mod Parts
+mod Valid
