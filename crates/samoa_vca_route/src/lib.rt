@@ -9,7 +9,7 @@ mod walk;
 mod words;
 
 pub use laws::away_is_elsewhere;
-pub use masks::{Masks, may_release_masked};
+pub use masks::{Masks, is_clear, may_release_masked};
 pub use reaching::reach;
 pub use release::{may_release, raises};
 

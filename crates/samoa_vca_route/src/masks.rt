@@ -166,8 +166,8 @@ fn listed(place: u32) -> HandlerId
     }
 }
 
-/// Whether a bit of a word is a zero.
-fn is_clear(word: u32, micro: u32) -> bool
+/// Whether a microprotocol's bit in a word is a zero. It takes no memory.
+pub fn is_clear(word: u32, micro: u32) -> bool
     requires { micro < 32 }
     ensures { IsTrue result ↔ (bit_at word micro ≡ 0) }
 {
