@@ -315,6 +315,7 @@ kept-admission fs ext number held promised clears_room global tables r kept admi
     record {
       in_range = kept.in_range;
       tables = is.changes.are;
+      masks = kept.masks;
       epochs = λ v. (let before = kept.epochs v in let more = is.changes.few v in omega (arith, before, more, longer));
       micros = kept.micros;
       known = λ j lt. known_at j (omega (arith, lt, longer)) (cases_eq j n);

@@ -80,6 +80,7 @@ kept-clear fs first promised kept all held is_first is_promised =
     } in
     record {
       in_range = kept.in_range;
+      masks = kept.masks;
       epochs = kept.epochs;
       tables = kept.tables;
       micros = kept.micros;

@@ -1,5 +1,5 @@
 -- What each step keeps of the fields of a core.
-use Rattle.std.proofs.Common.{arith, ◌≡◌, ℕ, zero, suc, ◌+◌, ◌-◌, ◌*◌, ◌<◌, ◌≤◌, refl, sym, ap, subst, ◌∙◌, List, [], ◌∷◌, ◌++◌, length, replicate, get_or, Bool, false, Some}
+use Rattle.std.proofs.Common.{arith, ◌≡◌, ℕ, zero, suc, ◌+◌, ◌-◌, ◌*◌, ◌<◌, ◌≤◌, refl, sym, ap, subst, ◌∙◌, List, [], ◌∷◌, ◌++◌, length, replicate, get_or, Bool, false, Option, Some}
 use Rattle.std.specs.Prelude.{option_map, slice_get}
 use Rattle.std.proofs.lemmas.List.{length-map}
 use Rattle.std.proofs.lemmas.Option.{slice_get-map, slice_get-get_or}
@@ -19,6 +19,7 @@ use Rattle.samoa_invariant.proofs.representation.Scripted.{get_is}
 use Rattle.samoa_invariant.proofs.representation.Traces.{invariant, is_run-with_step, opening_is_run, state-step}
 use Rattle.samoa_core.specs.Grids.{Grid}
 use Rattle.samoa_core.specs.Known.{decl_number}
+use Rattle.samoa_core.specs.Masked.{AreMasked}
 use Rattle.samoa_core.specs.Places.{slot_in}
 use Rattle.samoa_core.specs.Room.{to_come}
 use Rattle.samoa_core.specs.Running.{IsRunning, turn_of}
@@ -41,12 +42,13 @@ rows-grid script cells (suc nodes) =
     (length-map script.micros (set_up_at script nodes))
     (λ j lt. slice_get-map (set_up_at script nodes) script.micros j ∙ ap (option_map (set_up_at script nodes)) (slice_get-get_or script.micros j no_micro lt))
 
-abbrev new_fields : Script → Bindings → Slotted → List ℕ → List ℕ → ℕ → ℕ → Fields
-new_fields script tables slots global local cells clears_room = record {
+abbrev new_fields : Script → Bindings → List (Option (List ℕ)) → Slotted → List ℕ → List ℕ → ℕ → ℕ → Fields
+new_fields script tables masks slots global local cells clears_room = record {
   script = script;
   cells = cells;
   held = 0;
   tables = tables;
+  masks = masks;
   slots = slots;
   global = global;
   local = local;
@@ -63,14 +65,15 @@ new_fields script tables slots global local cells clears_room = record {
 }
 
 -- a core that was just made
-pub kept-new : (script : Script) (tables : Bindings) (slots : Slotted) (global local : List ℕ) (cells clears_room : ℕ)
-    → IsInRange script
+pub kept-new : (script : Script) (tables : Bindings) (masks : List (Option (List ℕ))) (slots : Slotted) (global local : List ℕ) (cells clears_room : ℕ)
+    → IsInRange script → AreMasked script masks
     → tables ≡ first_tables script → slots ≡ record { micros = length script.micros; boxes = rows_of script script.nodes }
     → global ≡ replicate (script.nodes * length script.micros) 0 → local ≡ replicate (script.nodes * length script.micros) 0
-    → Kept (new_fields script tables slots global local cells clears_room)
-kept-new script tables slots global local cells clears_room in_range is_tables is_slots is_global is_local = record {
+    → Kept (new_fields script tables masks slots global local cells clears_room)
+kept-new script tables masks slots global local cells clears_room in_range masked is_tables is_slots is_global is_local = record {
   in_range = in_range;
   tables = rw is_tables (tables-first script in_range);
+  masks = masked;
   epochs = λ node. rw is_tables (first-epochs script node);
   micros = ap (λ (s : Slotted). s.micros) is_slots;
   known = λ k lt. absurd (omega (arith, lt));
@@ -137,6 +140,7 @@ kept-with fs step local slots running unended away stopped kept due fit micros h
       in_range = kept.in_range;
       epochs = kept.epochs;
       tables = kept.tables;
+      masks = kept.masks;
       micros = micros;
       known = kept.known;
       is_run = is_run-with_step t step kept.is_run due;
@@ -217,6 +221,7 @@ pub kept-room : (fs : Fields) (clears_room room : ℕ) → Kept fs → fs.clears
 kept-room fs clears_room room kept more = record {
   in_range = kept.in_range;
   tables = tables-room fs.script fs.tables room kept.tables;
+  masks = kept.masks;
   epochs = kept.epochs;
   micros = kept.micros;
   known = kept.known;

@@ -1,5 +1,6 @@
 -- What the scans find, and how far their passes have come.
 use Rattle.std.proofs.Common.{arith, ◌≡◌, ◌⊎◌, inl, inr, ◌↔◌, ℕ, suc, ◌+◌, ◌-◌, ◌<◌, ◌≤◌, refl, sym, ap, subst, ◌∙◌, List, [], ◌∷◌, map, length, Bool, true, false, not, Some}
+use Rattle.std.specs.Int.{bit_at}
 use Rattle.std.specs.Prelude.{slice_get}
 use Rattle.samoa_model.specs.declared.ids.NodeId.{NodeId}
 use Rattle.samoa_model.specs.Allowed.{weight}
@@ -19,7 +20,7 @@ use Rattle.samoa_invariant.proofs.refinement.Ends.{idle_is_whole}
 use Rattle.samoa_invariant.proofs.settling.Making.{due-admitted, due-open, end-admitted, ends_before-all, ends_before-make, ends_before-none, ends_before-skip, releases_before-all, releases_before-make, releases_before-none, releases_of-make, releases_of-none, releases_of-skip}
 use Rattle.samoa_invariant.proofs.settling.Releasing.{ends-leave, releases-leave}
 use Rattle.samoa_invariant.proofs.preservation.Slots.{turn_declares}
-use Rattle.samoa_invariant.proofs.representation.Traces.{invariant}
+use Rattle.samoa_invariant.proofs.representation.Traces.{invariant, state-step}
 use Rattle.samoa_invariant.proofs.preservation.Versions.{version-own}
 use Rattle.samoa_core.specs.Forms.{waits_for_rest}
 use Rattle.samoa_core.specs.Known.{decl_number}
@@ -28,7 +29,7 @@ use Rattle.samoa_core.specs.Running.{IsRunning, turn_of}
 use Rattle.samoa_core.specs.declared.running.Interval.{Interval}
 use Rattle.samoa_core.specs.declared.running.Running.{Running}
 use Rattle.samoa_core.specs.Since.{cleared_comps}
-use Rattle.samoa_core.specs.Sound.{IsPast, IsSound}
+use Rattle.samoa_core.specs.Sound.{IsPast, IsSound, StillNeeds}
 use Rattle.samoa_core.proofs.Declares.{declares_known}
 use Rattle.samoa_core.proofs.Later.{later-made, still-unmoved}
 
@@ -52,6 +53,14 @@ none-released t c n none = releases_of-skip t t c 0 n (releases_of-none t c) (om
 pub due-within : (t : Trace) (c p : ℕ) → IsSound t → IsDue t (Step.Release c p) → p < length t.script.micros
 due-within t c p sound due =
     declares_known t.script sound.in_range (decl_number t.script (ext_at t.exts (c - 1))) p (turn_declares (play t) (state t) (c - 1) p (invariant t sound.run) due.enabled.turn)
+
+-- a release changes nothing of what a computation needs
+pub needs-on : (t u : Trace) (c m needed : ℕ) → IsRun t → u ≡ with_step t (Step.Release c m) → StillNeeds t c needed → StillNeeds u c needed
+needs-on t u c m needed run e needs = subst (λ (x : Trace). StillNeeds x c needed) (sym e) (record {
+  bits = λ p within.
+      subst (λ (core : model.Core). (bit_at needed p ≡ 0) ↔ model.Quiet ((play t).decl (c - 1)) (core.table (c - 1)) (core.comp (c - 1)) p)
+      (sym (state-step t (Step.Release c m) run)) (needs.bits p within);
+})
 
 -- a pass of releases begins, goes on to the next computation, and ends
 pub pass-begins : (t : Trace) → IsSound t → ReleasesBefore t t (cleared_comps t + 1)

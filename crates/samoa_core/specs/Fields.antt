@@ -10,6 +10,7 @@ fields_of a = record {
   cells = a.cells;
   held = a.held;
   tables = a.tables;
+  masks = a.masks.items;
   slots = a.slots;
   global = a.versions.gv;
   local = a.versions.lv;

@@ -4,6 +4,7 @@ use Rattle.samoa_model.specs.Allowed.{declares}
 use Rattle.samoa_model.specs.declared.ids.MicroId.{MicroId}
 use Rattle.samoa_model.specs.declared.script.Decl.{Decl}
 use Rattle.samoa_invariant.specs.Play.{is_bound}
+use Rattle.samoa_vca_route.specs.Masks.{AreMasksOf}
 use Rattle.samoa_vca_route.specs.Routes.{IsGraph}
 
 -- a declaration by which the tests of its form may be made: a route is a graph of few vertices
@@ -11,6 +12,13 @@ abbrev pub IsTestable : Decl → Type 0
 IsTestable (Decl.Set micros) = Unit {0}
 IsTestable (Decl.Bound bounds) = Unit {0}
 IsTestable (Decl.Route vertices roots edges) = IsGraph vertices edges
+
+-- where the declaration is a route, these are its masks
+abbrev pub IsMasked : Decl → Option (List ℕ) → Type 0
+IsMasked (Decl.Set micros) masks = Unit {0}
+IsMasked (Decl.Bound bounds) masks = Unit {0}
+IsMasked (Decl.Route vertices roots edges) None = ⊥
+IsMasked (Decl.Route vertices roots edges) (Some masks) = AreMasksOf vertices edges masks
 
 -- whether a microprotocol is released only once nothing is left of the computation's calls
 abbrev pub waits_for_rest : Decl → Bool

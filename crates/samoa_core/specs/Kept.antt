@@ -1,5 +1,5 @@
 -- What the fields of a core hold.
-use Rattle.std.specs.Prelude.{◌≡◌, ◌≤◌, ◌<◌, ◌+◌, ◌-◌, ℕ, Bool, true, List, Some, length, map, slice_get}
+use Rattle.std.specs.Prelude.{◌≡◌, ◌≤◌, ◌<◌, ◌+◌, ◌-◌, ℕ, Bool, true, List, Option, Some, length, map, slice_get}
 use Rattle.samoa_model.specs.declared.ids.NodeId.{NodeId}
 use Rattle.samoa_model.specs.declared.record.Ext.{Ext}
 use Rattle.samoa_model.specs.declared.record.Step.{Step}
@@ -11,6 +11,7 @@ use Rattle.samoa_invariant.specs.State as model
 use Rattle.samoa_invariant.specs.State.{sum_to, to_end}
 use Rattle.samoa_invariant.specs.Runs.{IsRun, Trace, ext_at, play, state}
 use Rattle.samoa_core.specs.Since.{cleared_comps}
+use Rattle.samoa_core.specs.Masked.{AreMasked}
 use Rattle.samoa_core.specs.Places.{away_in, slot_in}
 use Rattle.samoa_core.specs.Room.{to_come}
 use Rattle.samoa_core.specs.Grids.{Grid}
@@ -24,6 +25,7 @@ pub record Fields : Type 0 where
   pub cells : ℕ
   pub held : ℕ
   pub tables : Bindings
+  pub masks : List (Option (List ℕ))
   pub slots : Slotted
   pub global : List ℕ
   pub local : List ℕ
@@ -83,6 +85,7 @@ pub record Holds (fs : Fields) (core : model.Core) : Type 0 where
 pub record Kept (fs : Fields) : Type 0 where
   pub in_range : IsInRange fs.script
   pub tables : AreTables fs.script fs.tables
+  pub masks : AreMasked fs.script fs.masks
   pub epochs : (node : NodeId) → length (epochs_of fs.tables node) ≤ length fs.exts + 1
   pub micros : fs.slots.micros ≡ length fs.script.micros
   pub known : (k : ℕ) → k < length fs.exts → IsExtOf fs.script (ext_at fs.exts k)

@@ -13,5 +13,6 @@ pub mod Running
 pub mod Leaving
 pub mod Sound
 pub mod Forms
+pub mod Masked
 pub mod Kept
 pub mod Fields

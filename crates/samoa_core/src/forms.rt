@@ -1,15 +1,17 @@
 //! What depends on the form of a declaration: what it weighs and names, when a microprotocol is released, and where a
 //! completed call raises a version.
-ghost use Rattle.std.specs.Prelude.{◌≡◌, ◌↔◌, ◌<◌, ◌≤◌, ◌+◌, ◌*◌, length, IfSome, IsTrue};
+ghost use Rattle.std.specs.Prelude.{◌≡◌, ◌↔◌, ◌<◌, ◌≤◌, ◌+◌, ◌*◌, ℕ, length, IfSome, IsTrue};
+ghost use Rattle.std.specs.Int.{bit_at};
 ghost use Rattle.samoa_model.specs.Allowed.{weight};
 ghost use Rattle.samoa_model.specs.Paths.{MayRelease};
 ghost use Rattle.samoa_invariant.specs.State.{named};
 ghost use Rattle.samoa_versions.specs.Counters.{gv_at, lv_at};
-ghost use Rattle.samoa_core.specs.Forms.{IsTestable, raises, risen, waits_for_rest};
+ghost use Rattle.samoa_core.specs.Forms.{IsMasked, IsTestable, raises, risen, waits_for_rest};
 
 use crate::grid::place;
-use samoa_declare::{Standing, weight as weight_of};
+use samoa_declare::{Standing, nothing_left, weight as weight_of};
 use samoa_model::{Decl, MicroId, NodeId};
+use samoa_vca_route::{Masks, may_release_masked};
 use samoa_versions::Versions;
 
 /// How much a declaration allows of a microprotocol.
@@ -35,16 +37,48 @@ pub(crate) fn named_count(decl: &Decl) -> usize
 }
 
 /// Whether a computation that has its turn at a microprotocol may be done with it.
-pub(crate) fn may_release<T: Standing>(decl: &Decl, standing: &T, micro: u32) -> bool
-    requires { IsTestable decl.now }
+pub(crate) fn may_release<T: Standing>(
+    decl: &Decl,
+    masks: &Option<Masks>,
+    standing: &T,
+    micro: u32,
+) -> bool
+    requires testable { IsTestable decl.now }
+    requires masked { IsMasked decl.now masks.now }
     ensures { IsTrue result ↔ MayRelease decl.now (T.active_handlers standing.now) (T.waiting_handlers standing.now) micro }
 {
     let micro = MicroId(micro);
     match decl {
         Decl::Set { .. } => samoa_vca_basic::may_release(decl, standing, micro),
         Decl::Bound { .. } => samoa_vca_bound::may_release(decl, standing, micro),
-        Decl::Route { .. } => samoa_vca_route::may_release(decl, standing, micro),
+        Decl::Route { .. } => match masks {
+            Some(masks) => may_release_masked(decl, masks, standing, micro),
+            None => unreachable!(),
+        },
     }
+}
+
+/// The microprotocols that a computation may not be done with yet, as the bits of a word, whether it has its turn there or
+/// not.
+pub(crate) fn still_needed<T: Standing>(decl: &Decl, masks: &Option<Masks>, standing: &T) -> u32
+    requires testable { IsTestable decl.now }
+    requires masked { IsMasked decl.now masks.now }
+    ensures { (p : ℕ) → p < 32 → (bit_at result p ≡ 0) ↔ MayRelease decl.now (T.active_handlers standing.now) (T.waiting_handlers standing.now) p }
+{
+    match decl {
+        Decl::Set { .. } | Decl::Bound { .. } => all_unless(nothing_left(standing)),
+        Decl::Route { .. } => match masks {
+            Some(masks) => masks.still_needed(decl, standing),
+            None => unreachable!(),
+        },
+    }
+}
+
+/// All microprotocols, or none of them.
+fn all_unless(done: bool) -> u32
+    ensures { (p : ℕ) → p < 32 → (bit_at result p ≡ 0) ↔ IsTrue done }
+{
+    if done { 0 } else { u32::MAX }
 }
 
 /// Whether a computation is done with no microprotocol as long as anything is left of its calls.

@@ -8,20 +8,23 @@ ghost use Rattle.samoa_micro.specs.Covers.{Covers};
 ghost use Rattle.samoa_invariant.specs.State as model;
 ghost use Rattle.samoa_invariant.specs.Play.{IsIdle};
 ghost use Rattle.samoa_invariant.specs.Runs.{IsDue, IsRun, Trace, ext_at, opening_trace, play, state};
+ghost use Rattle.samoa_core.specs.Forms.{IsMasked};
 ghost use Rattle.samoa_core.specs.Since.{cleared_comps};
-ghost use Rattle.samoa_core.specs.Sound.{IsPast, IsSound};
+ghost use Rattle.samoa_core.specs.Sound.{IsPast, IsSound, StillNeeds};
 ghost use Rattle.samoa_core.specs.Places.{away};
 ghost use Rattle.samoa_core.specs.Running.{IsRunning};
 
-use crate::forms::may_release;
+use crate::forms::{may_release, still_needed};
 use crate::grid::place;
 use crate::journal::Journal;
 use crate::parts::{cells_of, decl_in};
+use crate::routes::masks_of;
 use crate::running::Running;
 use crate::slots::Slots;
 use samoa_bind::Tables;
 use samoa_micro::{Micro, Stock};
 use samoa_model::{Decl, Ext, MicroId, Moment, NoMemory, NodeId, Script, Step};
+use samoa_vca_route::Masks;
 use samoa_versions::Versions;
 use std::alloc::Global;
 use std::marker::Model;
@@ -37,6 +40,7 @@ pub struct Core<B: Micro> {
     pub(crate) cells: u32,
     pub(crate) held: u32,
     pub(crate) tables: Tables,
+    pub(crate) masks: Vec<Option<Masks>>,
     pub(crate) slots: Slots<B>,
     pub(crate) versions: Versions,
     pub(crate) exts: Vec<Ext>,
@@ -80,11 +84,13 @@ impl<B: Micro> Core<B> {
         let slots = Slots::set_up(alloc, &script, stock)?;
         let count = script.nodes as usize * script.micros.len();
         let versions = Versions::new(alloc, count)?;
+        let masks = masks_of(alloc, &script)?;
         Ok(Core {
             script,
             cells,
             held: 0,
             tables,
+            masks,
             slots,
             versions,
             exts: Vec::new(alloc),
@@ -196,6 +202,16 @@ impl<B: Micro> Core<B> {
         &decl_in(&self.script, self.running(comp).calls.decl()).decl
     }
 
+    /// The masks of a computation's declaration, if that is a route.
+    fn masks(&self, comp: u32) -> &Option<Masks>
+        requires kept { cleared_comps self.now < comp }
+        requires admitted { comp ≤ length self.now.exts }
+        ensures { IsMasked ((play self.now).decl (comp - 1)) result.now }
+    {
+        self.recall();
+        &self.masks[self.running(comp).calls.decl() as usize]
+    }
+
     /// The local version of a microprotocol of a node.
     fn local(&self, node: NodeId, micro: u32) -> u64
         requires node { node.0 < self.now.script.nodes }
@@ -258,7 +274,27 @@ impl<B: Micro> Core<B> {
         ensures { IsTrue result ↔ model.Quiet ((play self.now).decl (comp - 1)) ((state self.now).table (comp - 1)) ((state self.now).comp (comp - 1)) micro }
     {
         self.recall();
-        may_release(self.declaration(comp), &self.running(comp).calls, micro)
+        may_release(
+            self.declaration(comp),
+            self.masks(comp),
+            &self.running(comp).calls,
+            micro,
+        )
+    }
+
+    /// The microprotocols that a computation may not be done with yet, as the bits of a word, whether it has its turn
+    /// there or not.
+    pub(crate) fn still_needed(&self, comp: u32) -> u32
+        requires kept { cleared_comps self.now < comp }
+        requires admitted { comp ≤ length self.now.exts }
+        ensures { StillNeeds self.now comp result }
+    {
+        self.recall();
+        still_needed(
+            self.declaration(comp),
+            self.masks(comp),
+            &self.running(comp).calls,
+        )
     }
 
     /// The microprotocol and the moment of the next handler step of a computation, which may be out.

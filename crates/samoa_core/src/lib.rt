@@ -9,6 +9,7 @@ mod journal;
 mod kernel;
 mod moves;
 mod parts;
+mod routes;
 mod running;
 mod scans;
 mod sent;

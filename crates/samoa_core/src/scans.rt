@@ -6,11 +6,12 @@ ghost use Rattle.samoa_invariant.specs.Runs.{IsDue, IsRun, Trace, play, state, w
 ghost use Rattle.samoa_invariant.specs.Settling.{EndsAll, EndsBefore, ReleasesAll, ReleasesOf, Settles};
 ghost use Rattle.samoa_core.specs.Later.{IsLater, IsStill};
 ghost use Rattle.samoa_core.specs.Since.{cleared_comps};
-ghost use Rattle.samoa_core.specs.Sound.{IsPast};
+ghost use Rattle.samoa_core.specs.Sound.{IsPast, StillNeeds};
 
 use crate::forms::waits_for_rest;
 use crate::kernel::Core;
 use samoa_micro::Micro;
+use samoa_vca_route::is_clear;
 
 impl<B: Micro> Core<B> {
     /// The least computation whose next handler step is due, None exactly where there is none.
@@ -59,10 +60,12 @@ impl<B: Micro> Core<B> {
         if !self.may_have_releases(comp) {
             return;
         }
+        // No release changes what it needs.
+        let needed = self.still_needed(comp);
         let micros = self.micros();
         let mut micro = 0;
         while micro < micros {
-            self.try_release(comp, micro);
+            self.try_release(comp, micro, needed);
             micro += 1;
         }
     }
@@ -78,14 +81,17 @@ impl<B: Micro> Core<B> {
         !self.has_ended(comp) && (self.is_idle(comp) || !waits_for_rest(self.declaration(comp)))
     }
 
-    fn try_release(&mut self, comp: u32, micro: u32)
+    /// Makes a release, if it is due.
+    fn try_release(&mut self, comp: u32, micro: u32, needed: u32)
         requires kept { cleared_comps self.old < comp }
         requires admitted { comp ≤ length self.old.exts }
         requires micro { micro < length self.old.script.micros }
-        ensures { (before : Trace) → IsRun before → ReleasesOf before self.old comp micro → ReleasesOf before self.new comp (micro + 1) }
+        requires needed { StillNeeds self.old comp needed }
+        ensures releases { (before : Trace) → IsRun before → ReleasesOf before self.old comp micro → ReleasesOf before self.new comp (micro + 1) }
+        ensures needed { StillNeeds self.new comp needed }
     {
         self.recall();
-        if self.can_release(comp, micro) {
+        if is_clear(needed, micro) && self.has_turn(comp, micro) {
             self.release(comp, micro);
         }
     }

@@ -2,7 +2,7 @@
 ghost use Rattle.std.specs.Prelude.{IfOk};
 ghost use Rattle.samoa_vca_route.specs.Routes.{IsRoute};
 
-use crate::{may_release, raises, reach};
+use crate::{Masks, may_release, may_release_masked, raises, reach};
 use samoa_declare::Standing;
 use samoa_model::{Decl, HandlerId, Listed, MicroId};
 use std::alloc::Global;
@@ -71,5 +71,38 @@ fn releases_what_no_call_can_reach(rt: HostRuntime) -> Result<(), Fail> {
             released
         );
     }
+    Ok(())
+}
+
+#[test]
+fn releases_the_same_by_masks(rt: HostRuntime) -> Result<(), Fail> {
+    let decl = fork(rt.alloc())?;
+    let masks = Masks::new(rt.alloc(), &decl)?;
+    let root = Some(HandlerId {
+        micro: MicroId(0),
+        index: 5,
+    });
+    let (right, outside, far) = (Some(handler(2)), Some(handler(0)), Some(handler(40)));
+    for (active, waiting, needed) in [
+        (None, None, 0b000),
+        (root, None, 0b111),
+        (right, outside, 0b101),
+        (right, far, 0b100),
+    ] {
+        let calls = Calls { active, waiting };
+        assert_eq!(rt; masks.still_needed(&decl, &calls), needed);
+        for micro in 0..3 {
+            assert_eq!(rt;
+                may_release_masked(&decl, &masks, &calls, MicroId(micro)),
+                may_release(&decl, &calls, MicroId(micro))
+            );
+        }
+    }
+    let calls = Calls {
+        active: right,
+        waiting: far,
+    };
+    assert!(rt; !may_release_masked(&decl, &masks, &calls, MicroId(40)));
+    assert!(rt; may_release_masked(&decl, &masks, &calls, MicroId(41)));
     Ok(())
 }

@@ -1,8 +1,14 @@
+use Rattle.std.proofs.Common.{subst, sym}
+use Rattle.samoa_model.specs.declared.script.Decl.{Decl}
+use Rattle.samoa_core.specs.Forms.{IsMasked}
 use Rattle.samoa_core.proofs.Quiets.{handlers-by, testable}
 use Rattle.samoa_core.proofs.kernel.Core.is_quiet.Goals as goal
 
-pub may_release-requires : goal.may_release-requires
-may_release-requires g c = testable c.args.self.now.script c.declaration.result.now c.declaration.ensures.known
+pub may_release-requires-clause-testable : goal.may_release-requires-clause-testable
+may_release-requires-clause-testable g c = testable c.args.self.now.script c.declaration.result.now c.declaration.ensures.known
+
+pub may_release-requires-clause-masked : goal.may_release-requires-clause-masked
+may_release-requires-clause-masked g c = subst (λ (d : Decl). IsMasked d c.masks.result.now) (sym c.declaration.ensures.decl) c.masks.ensures
 
 pub returns : goal.returns
 returns g c =

@@ -15,13 +15,14 @@ loop-micro-init g c = record {
   made = releases_of-none c.args.self.now c.args.comp;
   kept = c.requires.kept;
   admitted = c.requires.admitted;
+  needed = c.still_needed-needed.ensures;
   micros = sym c.micros-micros.ensures;
   below = omega arith;
 }
 
 pub loop-micro-preserved : goal.loop-micro-preserved
 loop-micro-preserved g c =
-    let made = c.try_release.ensures c.args.self.now c.recall.ensures.run c.loop-micro.invariant.made in
+    let made = c.try_release.ensures.releases c.args.self.now c.recall.ensures.run c.loop-micro.invariant.made in
     let later : IsLater c.args.self.now c.try_release.new.self = later-made c.args.self.now c.try_release.new.self made.steps c.recall.ensures.run made.made in
     let kept = c.requires.kept in
     let admitted = c.requires.admitted in
@@ -29,6 +30,7 @@ loop-micro-preserved g c =
       made = made;
       kept = rw later.cleared kept;
       admitted = rw later.exts admitted;
+      needed = c.try_release.ensures.needed;
       micros = ap (λ s. length s.micros) later.script ∙ sym c.micros-micros.ensures;
       below = omega arith;
     }

@@ -1,10 +1,23 @@
-use Rattle.samoa_core.proofs.Passes.{not-released, released}
+use Rattle.std.proofs.Common.{arith}
+use Rattle.samoa_model.specs.declared.record.Step.{Step}
+use Rattle.samoa_invariant.specs.Runs.{IsDue}
+use Rattle.samoa_core.proofs.Passes.{needs-on, released}
 use Rattle.samoa_core.proofs.kernel.Core.try_release.Goals as goal
 
-pub returns-then-can_release : goal.returns-then-can_release
-returns-then-can_release g c before run made =
-    released before c.args.self.now _ c.args.comp c.args.micro run made (c.can_release.ensures.0 c.if-can_release.true) c.release.ensures.step
+pub returns-then-has_turn-clause-releases : goal.returns-then-has_turn-clause-releases
+returns-then-has_turn-clause-releases g c before run made =
+    let kept = c.requires.kept in
+    let micro = c.requires.micro in
+    let few = c.recall.ensures.in_range.few_micros in
+    let due : IsDue c.args.self.now (Step.Release c.args.comp c.args.micro) = record {
+      number = omega (arith, kept);
+      enabled = record {
+        turn = c.has_turn.ensures.0 c.if-has_turn.true;
+        quiet = (c.requires.needed.bits c.args.micro (omega (arith, micro, few))).0 (c.is_clear.ensures.0 c.if-is_clear.true);
+      };
+    } in
+    released before c.args.self.now _ c.args.comp c.args.micro run made due c.release.ensures.step
 
-pub returns-else-can_release : goal.returns-else-can_release
-returns-else-can_release g c before run made =
-    not-released before c.args.self.now c.args.comp c.args.micro made (λ due. let yes = c.can_release.ensures.1 due in let no = c.if-can_release.false in cc)
+pub returns-then-has_turn-clause-needed : goal.returns-then-has_turn-clause-needed
+returns-then-has_turn-clause-needed g c =
+    needs-on c.args.self.now c.release.new.self c.args.comp c.args.micro c.args.needed c.recall.ensures.run c.release.ensures.step c.requires.needed
