@@ -2,8 +2,8 @@
 use Rattle.std.proofs.Common.{◌≡◌, ℕ, ◌+◌, ◌-◌, ◌<◌, true, List, [], ap, arith, length, take, ◌∙◌}
 use Rattle.samoa_invariant.specs.Runs.{Trace, state}
 use Rattle.samoa_invariant.specs.State.{AllEnded, NothingOut}
-use Rattle.samoa_core.specs.Later.{IsStill}
-use Rattle.samoa_core.specs.Since.{admissions, cleared_comps, last_of}
+use Rattle.samoa_control.specs.Later.{IsStill}
+use Rattle.samoa_control.specs.Since.{admissions, cleared_comps, last_of}
 
 pub none_cleared : (t : Trace) → t.clears ≡ [] → cleared_comps t ≡ 0
 unfolding cleared_comps

@@ -6,7 +6,7 @@ ghost use Rattle.samoa_model.specs.Range.{IsCauseOf, IsInRange};
 ghost use Rattle.samoa_micro.specs.Covers.{Covers};
 ghost use Rattle.samoa_invariant.specs.State as model;
 ghost use Rattle.samoa_invariant.specs.Runs.{play, state};
-ghost use Rattle.samoa_core.specs.Later.{IsStill};
+ghost use Rattle.samoa_control.specs.Later.{IsStill};
 
 use samoa_core::Core;
 use samoa_micro::{Micro, Stock};

@@ -2,7 +2,7 @@
 ghost use Rattle.std.specs.Prelude.{◌≡◌, ◌<◌, ◌≤◌, ◌-◌, [], length, true};
 ghost use Rattle.samoa_invariant.specs.State.{AllEnded};
 ghost use Rattle.samoa_invariant.specs.Runs.{state};
-ghost use Rattle.samoa_core.specs.Since.{cleared_comps};
+ghost use Rattle.samoa_control.specs.Since.{cleared_comps};
 
 use samoa_core::Core;
 use samoa_micro::Micro;

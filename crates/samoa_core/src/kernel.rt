@@ -1,68 +1,56 @@
-//! The core: what it holds, and what is read of it.
-ghost use Rattle.std.specs.Prelude.{◌≡◌, ℕ, ◌<◌, ◌≤◌, ◌+◌, ◌-◌, ◌↔◌, length, None, true, false, IsTrue, IfOk, IfSome};
+//! The core.
+ghost use Rattle.std.specs.Prelude.{◌≡◌, ℕ, ◌<◌, ◌≤◌, ◌+◌, ◌-◌, ◌↔◌, length, Some, None, true, nat_lt, slice_get, if◌then◌else◌, IsTrue, IfOk, IfErr, IfSome, IfNone, OnOk, OnErr};
 ghost use Rattle.samoa_model.specs.Cells.{cells_of as computation_cells, need};
-ghost use Rattle.samoa_model.specs.Range.{IsDeclOf, IsExtOf, IsInRange};
+ghost use Rattle.samoa_model.specs.Range.{IsExtOf, IsInRange};
+ghost use Rattle.samoa_model.specs.Scripts.{micro_at};
 ghost use Rattle.samoa_model.specs.declared.record.Step.{Step};
-ghost use Rattle.samoa_calls.specs.Handed.{next_moment};
+ghost use Rattle.samoa_serial.specs.Kinds.{shown};
+ghost use Rattle.samoa_serial.specs.SerialRun.{serial};
 ghost use Rattle.samoa_micro.specs.Covers.{Covers};
 ghost use Rattle.samoa_invariant.specs.State as model;
-ghost use Rattle.samoa_invariant.specs.Play.{IsIdle};
-ghost use Rattle.samoa_invariant.specs.Runs.{IsDue, IsRun, Trace, ext_at, opening_trace, play, state};
-ghost use Rattle.samoa_core.specs.Forms.{IsMasked};
-ghost use Rattle.samoa_core.specs.Since.{cleared_comps};
-ghost use Rattle.samoa_core.specs.Sound.{IsPast, IsSound, StillNeeds};
-ghost use Rattle.samoa_core.specs.Places.{away};
-ghost use Rattle.samoa_core.specs.Running.{IsRunning};
+ghost use Rattle.samoa_invariant.specs.State.{AllEnded};
+ghost use Rattle.samoa_invariant.specs.Runs.{IsDue, IsRun, Trace, ext_at, opening_trace, play, served_at, state, with_clear, with_step};
+ghost use Rattle.samoa_invariant.specs.Settling.{EndsAll, ReleasesAll, Settles};
+ghost use Rattle.samoa_control.specs.Admission.{admitted, most_admitted};
+ghost use Rattle.samoa_control.specs.Later.{IsLater, IsStill};
+ghost use Rattle.samoa_control.specs.Places.{away};
+ghost use Rattle.samoa_control.specs.Since.{cleared_comps};
+ghost use Rattle.samoa_control.specs.Steps.{IsNoAdmit};
+ghost use Rattle.samoa_control.specs.Turns.{IsAway};
 
-use crate::forms::{may_release, still_needed};
-use crate::grid::place;
-use crate::journal::Journal;
-use crate::parts::{cells_of, decl_in};
-use crate::routes::masks_of;
-use crate::running::Running;
-use crate::slots::Slots;
-use samoa_bind::Tables;
+use crate::index::Index;
+use crate::{joining, keeping, settling, steps};
+use samoa_control::{Control, Ran, Turn};
 use samoa_micro::{Micro, Stock};
-use samoa_model::{Decl, Ext, MicroId, Moment, NoMemory, NodeId, Script, Step};
-use samoa_vca_route::Masks;
-use samoa_versions::Versions;
+use samoa_model::{Ending, Entry, Ext, MicroId, NoMemory, NodeId, Script, Step, Words};
+use samoa_versions::Steps;
 use std::alloc::Global;
-use std::marker::Model;
+use std::marker::{Brand, Model};
+use std::sync::ledger::{Blank, Ledger};
 
 /// A core, which has any number of computations open at once, over the microprotocols of all nodes.
 ///
 /// Contracts see the script, the cells, what was admitted, the lengths of the journal at the clears, and the journal: all
 /// steps that were made. What the core stands at is the run of these steps. Computations are numbered from 1, in the order
 /// of their admission. Besides `new` and `admit` no call takes memory.
+///
+/// Beside the control, which makes the steps, stands an index of the computations, so that no call looks at one that the
+/// last step can't have changed.
 #[derive(Drop)]
 pub struct Core<B: Micro> {
-    pub(crate) script: Script,
-    pub(crate) cells: u32,
-    pub(crate) held: u32,
-    pub(crate) tables: Tables,
-    pub(crate) masks: Vec<Option<Masks>>,
-    pub(crate) slots: Slots<B>,
-    pub(crate) versions: Versions,
-    pub(crate) exts: Vec<Ext>,
-    pub(crate) clears: Vec<u64>,
-    pub(crate) journal: Journal,
-    pub(crate) first: u32,
-    pub(crate) running: Vec<Running>,
-    pub(crate) spare: Vec<Running>,
-    pub(crate) unended: u32,
-    pub(crate) away: u32,
-    pub(crate) stopped: bool,
+    control: Control<B>,
+    index: Index,
 }
 
 impl<B: Micro> Model for Core<B> {
     ghost use Rattle.samoa_invariant.specs.Runs.{Trace};
-    ghost use Rattle.samoa_core.specs.Fields.{IsKept, trace_in};
+    ghost use Rattle.samoa_core.specs.Indexed.{IsIndexedBy};
 
     ghost Value = { Trace };
 
-    ghost view = { trace_in };
+    ghost view = { λ c. c.control };
 
-    ghost invariant = { IsKept };
+    ghost invariant = { λ c. IsIndexedBy c.control c.index };
 }
 
 impl<B: Micro> Core<B> {
@@ -79,30 +67,9 @@ impl<B: Micro> Core<B> {
         requires cells { need script.now ≤ cells }
         ensures { IfOk result (λ core. core ≡ opening_trace script.now cells) }
     {
-        let script = script.copied(alloc)?;
-        let tables = Tables::new(alloc, &script)?;
-        let slots = Slots::set_up(alloc, &script, stock)?;
-        let count = script.nodes as usize * script.micros.len();
-        let versions = Versions::new(alloc, count)?;
-        let masks = masks_of(alloc, &script)?;
-        Ok(Core {
-            script,
-            cells,
-            held: 0,
-            tables,
-            masks,
-            slots,
-            versions,
-            exts: Vec::new(alloc),
-            clears: Vec::new(alloc),
-            journal: Journal::new(alloc),
-            first: 0,
-            running: Vec::new(alloc),
-            spare: Vec::new(alloc),
-            unended: 0,
-            away: 0,
-            stopped: false,
-        })
+        let control = Control::new(alloc, script, stock, cells)?;
+        let index = Index::new(alloc, control.slots(), script.micros.len())?;
+        Ok(Core { control, index })
     }
 
     /// Whether a stock is enough for a script: it has, of each kind, at least as many as the script's nodes times its
@@ -110,7 +77,7 @@ impl<B: Micro> Core<B> {
     pub fn covers(script: &Script, stock: &Stock<B>) -> bool
         ensures { IsTrue result ↔ Covers script.now stock.now }
     {
-        stock.covers(script)
+        Control::<B>::covers(script, stock)
     }
 
     /// Whether the cells of a computation are free: 16 for each unit of its declaration's budget, and 16 more. Its node
@@ -119,7 +86,7 @@ impl<B: Micro> Core<B> {
         requires { IsExtOf self.now.script ext.now }
         ensures { IsTrue result ↔ ((state self.now).cells + computation_cells self.now.script ext.now ≤ self.now.cells) }
     {
-        cells_of(&self.script, ext) <= self.cells - self.held
+        self.control.fits(ext)
     }
 
     /// How many computations were admitted. What the core holds is a run, in which all of them were admitted.
@@ -132,121 +99,35 @@ impl<B: Micro> Core<B> {
         ensures cleared { cleared_comps self.now ≤ length self.now.exts }
         ensures past { (k : ℕ) → k < cleared_comps self.now → (state self.now).ended k ≡ true }
     {
-        self.exts.len() as u32
-    }
-
-    /// What holds of every core, for a proof that needs it; it costs nothing.
-    pub(crate) fn recall(&self)
-        ensures { IsSound self.now }
-    {
-        let _script = &self.script;
+        self.control.admitted()
     }
 
     /// The steps that were made since `new`.
     pub fn journal(&self) -> &[Step]
         ensures { result.now ≡ self.now.journal }
     {
-        self.journal.steps()
+        self.control.journal()
     }
 
     /// Whether a handler step was abandoned. No handler step begins any more then.
     pub fn stopped(&self) -> bool
         ensures { result ≡ (state self.now).stopped }
     {
-        self.stopped
+        self.control.stopped()
     }
 
     /// Whether each computation that was admitted has ended.
     pub fn all_ended(&self) -> bool
         ensures { IsTrue result ↔ model.AllEnded (state self.now) }
     {
-        self.unended == 0
+        self.control.all_ended()
     }
 
     /// How many microprotocols are out of their slots.
     pub fn away(&self) -> u32
         ensures { result ≡ away self.now }
     {
-        self.away
-    }
-
-    /// How many computations were cleared away.
-    pub(crate) fn cleared(&self) -> u32
-        ensures { result ≡ cleared_comps self.now }
-    {
-        self.first
-    }
-
-    pub(crate) fn micros(&self) -> u32
-        ensures { result ≡ length self.now.script.micros }
-    {
-        self.script.micros.len() as u32
-    }
-
-    /// What is kept of a computation that was admitted since the last clear.
-    pub(crate) fn running(&self, comp: u32) -> &Running
-        requires kept { cleared_comps self.now < comp }
-        requires admitted { comp ≤ length self.now.exts }
-        ensures { IsRunning self.now.script self.now.exts (state self.now) (comp - 1) result.now }
-    {
-        &self.running[(comp - 1 - self.first) as usize]
-    }
-
-    pub(crate) fn declaration(&self, comp: u32) -> &Decl
-        requires kept { cleared_comps self.now < comp }
-        requires admitted { comp ≤ length self.now.exts }
-        ensures decl { result.now ≡ (play self.now).decl (comp - 1) }
-        ensures known { IsDeclOf self.now.script result.now }
-    {
-        self.recall();
-        &decl_in(&self.script, self.running(comp).calls.decl()).decl
-    }
-
-    /// The masks of a computation's declaration, if that is a route.
-    fn masks(&self, comp: u32) -> &Option<Masks>
-        requires kept { cleared_comps self.now < comp }
-        requires admitted { comp ≤ length self.now.exts }
-        ensures { IsMasked ((play self.now).decl (comp - 1)) result.now }
-    {
-        self.recall();
-        &self.masks[self.running(comp).calls.decl() as usize]
-    }
-
-    /// The local version of a microprotocol of a node.
-    fn local(&self, node: NodeId, micro: u32) -> u64
-        requires node { node.0 < self.now.script.nodes }
-        requires micro { micro < length self.now.script.micros }
-        ensures { result ≡ (state self.now).local node.0 micro }
-    {
-        self.versions
-            .local(place(self.script.micros.len(), node.0, micro))
-    }
-
-    /// Whether it is a computation's turn at a microprotocol.
-    pub(crate) fn has_turn(&self, comp: u32, micro: u32) -> bool
-        requires kept { cleared_comps self.now < comp }
-        requires admitted { comp ≤ length self.now.exts }
-        requires micro { micro < length self.now.script.micros }
-        ensures { IsTrue result ↔ model.HasTurn (play self.now) (state self.now) (comp - 1) micro }
-    {
-        self.recall();
-        let running = self.running(comp);
-        let turn = running.turn(micro);
-        let local = self.local(running.node, micro);
-        turn.from <= local && local < turn.to
-    }
-
-    /// Whether a microprotocol isn't declared by a computation, or it is past its turn there.
-    pub(crate) fn is_past(&self, comp: u32, micro: u32) -> bool
-        requires kept { cleared_comps self.now < comp }
-        requires admitted { comp ≤ length self.now.exts }
-        requires micro { micro < length self.now.script.micros }
-        ensures { IsTrue result ↔ IsPast (play self.now) (state self.now) (comp - 1) micro }
-    {
-        self.recall();
-        let running = self.running(comp);
-        let local = self.local(running.node, micro);
-        running.turn(micro).is_over(local)
+        self.control.away()
     }
 
     /// Whether a computation has ended that was admitted since the last clear.
@@ -255,99 +136,188 @@ impl<B: Micro> Core<B> {
         requires admitted { comp ≤ length self.now.exts }
         ensures { result ≡ (state self.now).ended (comp - 1) }
     {
-        self.running(comp).ended
+        self.control.has_ended(comp)
     }
 
-    /// Whether nothing is left of a computation's calls.
-    pub(crate) fn is_idle(&self, comp: u32) -> bool
+    /// Admits a computation, where its cells are free and fewer than 100,000 were admitted. Answers its number, from 1.
+    /// Its versions are taken in this one step, and afterwards none of its steps takes memory. Where there was no memory,
+    /// nothing has changed.
+    pub fn admit(&mut self, alloc: Global, ext: Ext) -> Result<u32, (Ext, NoMemory)>
+        requires fits { (state self.old).cells + computation_cells self.old.script ext ≤ self.old.cells }
+        requires few { length self.old.exts < most_admitted }
+        requires known { IsExtOf self.old.script ext }
+        ensures number { IfOk result (λ comp. comp ≡ length self.old.exts + 1) }
+        ensures step { OnOk result (self.new ≡ admitted self.old ext) }
+        ensures still { OnOk result (IsStill (state self.old) self.new) }
+        ensures cleared { cleared_comps self.new ≡ cleared_comps self.old }
+        ensures back { IfErr result (λ e. e.0 ≡ ext) }
+        ensures err { OnErr result (self.new ≡ self.old) }
+    {
+        joining::admit(&mut self.control, &mut self.index, alloc, ext)
+    }
+
+    /// The least computation whose next handler step is due, None exactly where there is none.
+    pub fn pick(&self) -> Option<u32>
+        ensures due { IfSome result (λ comp. (micro : ℕ) × IsDue self.now (Step.Enter comp micro)) }
+        ensures least { IfSome result (λ comp. (earlier micro : ℕ) → earlier < comp → IsDue self.now (Step.Enter earlier micro) → ⊥) }
+        ensures none { IfNone result ((comp micro : ℕ) → IsDue self.now (Step.Enter comp micro) → ⊥) }
+    {
+        steps::pick_by::<B, Brand>(&self.control, &self.index, Blank::new(1))
+    }
+
+    /// The least computation whose next handler step is due, None exactly where there is none: `pick`, of which a counter
+    /// says that it makes at most three probes of the index.
+    pub fn pick_counted<L: Ledger>(&self, steps: &mut Steps<L>) -> Option<u32>
+        ensures due { IfSome result (λ comp. (micro : ℕ) × IsDue self.now (Step.Enter comp micro)) }
+        ensures least { IfSome result (λ comp. (earlier micro : ℕ) → earlier < comp → IsDue self.now (Step.Enter earlier micro) → ⊥) }
+        ensures none { IfNone result ((comp micro : ℕ) → IsDue self.now (Step.Enter comp micro) → ⊥) }
+        ensures cost { steps.new ≤ steps.old + 3 }
+    {
+        steps::pick_counted(&self.control, &self.index, steps)
+    }
+
+    /// Begins the next handler step of a computation, which is due: its microprotocol leaves its slot.
+    pub fn enter(&mut self, comp: u32) -> Turn<B>
+        requires due { (micro : ℕ) × IsDue self.old (Step.Enter comp micro) }
+        ensures comp { result.comp ≡ comp }
+        ensures step { self.new ≡ with_step self.old (Step.Enter comp result.micro) }
+        ensures later { IsLater self.old self.new }
+        ensures away { IsAway self.new result }
+        ensures fewer { model.left (play self.new) (state self.new) < model.left (play self.old) (state self.old) }
+    {
+        keeping::enter(&mut self.control, &mut self.index, comp)
+    }
+
+    /// Ends a handler step that is out and was made: its microprotocol comes back to its slot, and its outcome takes
+    /// effect.
+    pub fn leave(&mut self, ran: Ran<B>)
+        requires away { IsAway self.old ran }
+        ensures step { self.new ≡ with_step self.old (Step.Leave ran.comp) }
+        ensures later { IsLater self.old self.new }
+        ensures fewer { model.left (play self.new) (state self.new) < model.left (play self.old) (state self.old) }
+    {
+        keeping::leave(&mut self.control, &mut self.index, ran);
+    }
+
+    /// Takes a handler step back that is out: its microprotocol comes back as it was, and no handler step begins any more.
+    pub fn abandon(&mut self, turn: Turn<B>)
+        requires away { IsAway self.old turn }
+        ensures step { self.new ≡ with_step self.old (Step.Abandon turn.comp) }
+        ensures later { IsLater self.old self.new }
+    {
+        keeping::abandon(&mut self.control, &mut self.index, turn);
+    }
+
+    /// Whether a step is enabled, which is no Admit. It answers whatever number and microprotocol the step names: none is
+    /// enabled of a computation that wasn't admitted or was cleared away, or at a microprotocol that isn't there. A Leave
+    /// and an Abandon are enabled exactly where the computation is out.
+    pub fn enabled(&self, step: &Step) -> bool
+        requires { IsNoAdmit step.now }
+        ensures { IsTrue result ↔ IsDue self.now step.now }
+    {
+        self.control.enabled(step)
+    }
+
+    /// Makes a release, which is due: the computation is done with the microprotocol, and the next one has its turn there.
+    pub fn release(&mut self, comp: u32, micro: u32)
+        requires due { IsDue self.old (Step.Release comp micro) }
+        ensures step { self.new ≡ with_step self.old (Step.Release comp micro) }
+        ensures later { IsLater self.old self.new }
+        ensures fewer { model.left (play self.new) (state self.new) < model.left (play self.old) (state self.old) }
+    {
+        keeping::release(&mut self.control, &mut self.index, comp, micro);
+    }
+
+    /// Makes an end, which is due: the computation has ended.
+    pub fn end(&mut self, comp: u32)
+        requires due { IsDue self.old (Step.End comp) }
+        ensures step { self.new ≡ with_step self.old (Step.End comp) }
+        ensures later { IsLater self.old self.new }
+        ensures fewer { model.left (play self.new) (state self.new) < model.left (play self.old) (state self.old) }
+    {
+        keeping::end(&mut self.control, &self.index, comp);
+    }
+
+    /// Makes the releases that are due, by rising computation, then rising microprotocol, until none is.
+    pub fn release_all(&mut self)
+        ensures releases { ReleasesAll self.old self.new }
+        ensures still { IsStill (state self.old) self.new }
+        ensures later { IsLater self.old self.new }
+        ensures not_more { model.left (play self.new) (state self.new) ≤ model.left (play self.old) (state self.old) }
+    {
+        settling::release_all(&mut self.control, &mut self.index);
+    }
+
+    /// Makes the ends that are due, by rising computation, until none is.
+    pub fn end_all(&mut self)
+        ensures ends { EndsAll self.old self.new }
+        ensures still { IsStill (state self.old) self.new }
+        ensures later { IsLater self.old self.new }
+        ensures not_more { model.left (play self.new) (state self.new) ≤ model.left (play self.old) (state self.old) }
+    {
+        settling::end_all(&mut self.control, &mut self.index);
+    }
+
+    /// Makes all releases and then all ends that are due. None of either is due afterwards.
+    pub fn settle(&mut self)
+        ensures settles { Settles self.old self.new }
+        ensures settled { model.IsSettled (play self.new) (state self.new) }
+        ensures still { IsStill (state self.old) self.new }
+        ensures later { IsLater self.old self.new }
+        ensures not_more { model.left (play self.new) (state self.new) ≤ model.left (play self.old) (state self.old) }
+    {
+        settling::settle(&mut self.control, &mut self.index);
+    }
+
+    /// What began a computation.
+    pub fn ext(&self, comp: u32) -> Ext
+        requires first { 0 < comp }
+        requires admitted { comp ≤ length self.now.exts }
+        ensures { slice_get self.now.exts (comp - 1) ≡ Some result }
+    {
+        self.control.ext(comp)
+    }
+
+    /// An entry of a computation that has ended, since the last `clear`, None exactly past the last of them. It is that of
+    /// the serial run, whether or not others have ended.
+    pub fn entry(&self, comp: u32, at: usize) -> Option<Entry>
         requires kept { cleared_comps self.now < comp }
         requires admitted { comp ≤ length self.now.exts }
-        ensures { IsTrue result ↔ IsIdle ((state self.now).comp (comp - 1)) }
+        requires ended { (state self.now).ended (comp - 1) ≡ true }
+        ensures { result ≡ slice_get (served_at self.now comp).world.entries at }
     {
-        self.running(comp).calls.is_over()
+        self.control.entry(comp, at)
     }
 
-    /// Whether a computation may be done with a microprotocol at which it has its turn.
-    pub(crate) fn is_quiet(&self, comp: u32, micro: u32) -> bool
+    /// How a computation ended, since the last `clear`: as in the serial run, whether or not others have ended.
+    pub fn ending(&self, comp: u32) -> Ending
         requires kept { cleared_comps self.now < comp }
         requires admitted { comp ≤ length self.now.exts }
-        ensures { IsTrue result ↔ model.Quiet ((play self.now).decl (comp - 1)) ((state self.now).table (comp - 1)) ((state self.now).comp (comp - 1)) micro }
+        requires ended { (state self.now).ended (comp - 1) ≡ true }
+        ensures { result ≡ (served_at self.now comp).value }
     {
-        self.recall();
-        may_release(
-            self.declaration(comp),
-            self.masks(comp),
-            &self.running(comp).calls,
-            micro,
-        )
+        self.control.ending(comp)
     }
 
-    /// The microprotocols that a computation may not be done with yet, as the bits of a word, whether it has its turn
-    /// there or not.
-    pub(crate) fn still_needed(&self, comp: u32) -> u32
-        requires kept { cleared_comps self.now < comp }
-        requires admitted { comp ≤ length self.now.exts }
-        ensures { StillNeeds self.now comp result }
+    /// Gives the cells back and drops the entries, where all have ended. Where no cells were held, nothing has changed.
+    pub fn clear(&mut self)
+        requires { AllEnded (state self.old) }
+        ensures clear { self.new ≡ (if nat_lt 0 (state self.old).cells then with_clear self.old else self.old) }
+        ensures still { IsStill (state self.old) self.new }
+        ensures cells { (state self.new).cells ≡ 0 }
     {
-        self.recall();
-        still_needed(
-            self.declaration(comp),
-            self.masks(comp),
-            &self.running(comp).calls,
-        )
+        keeping::clear(&mut self.control, &mut self.index);
     }
 
-    /// The microprotocol and the moment of the next handler step of a computation, which may be out.
-    pub(crate) fn next(&self, comp: u32) -> Option<(MicroId, Moment)>
-        requires kept { cleared_comps self.now < comp }
-        requires admitted { comp ≤ length self.now.exts }
-        ensures next { result ≡ next_moment ((state self.now).comp (comp - 1)) }
-        ensures within { IfSome result (λ step. step.0.0 < length self.now.script.micros) }
-    {
-        self.recall();
-        self.running(comp).calls.next()
-    }
-
-    pub(crate) fn is_home(&self, node: NodeId, micro: u32) -> bool
+    /// What a microprotocol of a node shows, which is in its slot. Where all have ended, it is what the serial run leaves.
+    pub fn shown(&self, node: NodeId, micro: MicroId) -> Words
         requires node { node.0 < self.now.script.nodes }
-        requires micro { micro < length self.now.script.micros }
-        ensures { IsTrue result ↔ (state self.now).out node.0 micro ≡ None }
+        requires micro { micro.0 < length self.now.script.micros }
+        requires home { (state self.now).out node.0 micro.0 ≡ None }
+        ensures shown { result ≡ shown (micro_at self.now.script micro.0).kind ((state self.now).boxes node.0 micro.0) }
+        ensures serial { AllEnded (state self.now)
+            → result ≡ shown (micro_at self.now.script micro.0).kind ((serial self.now.script self.now.exts).states node.0 micro.0) }
     {
-        self.slots.is_home(node, micro)
-    }
-
-    /// Whether a microprotocol is home at a computation's node.
-    pub(crate) fn is_home_of(&self, comp: u32, micro: u32) -> bool
-        requires kept { cleared_comps self.now < comp }
-        requires admitted { comp ≤ length self.now.exts }
-        requires micro { micro < length self.now.script.micros }
-        ensures { IsTrue result ↔ (state self.now).out ((play self.now).node (comp - 1)) micro ≡ None }
-    {
-        self.recall();
-        self.is_home(self.running(comp).node, micro)
-    }
-
-    /// Whether a microprotocol is home at a computation's node, in a core that isn't stopped.
-    fn may_go_out(&self, comp: u32, micro: u32) -> bool
-        requires kept { cleared_comps self.now < comp }
-        requires admitted { comp ≤ length self.now.exts }
-        requires micro { micro < length self.now.script.micros }
-        ensures { IsTrue result ↔ (((state self.now).out ((play self.now).node (comp - 1)) micro ≡ None) × ((state self.now).stopped ≡ false)) }
-    {
-        let stopped = self.stopped();
-        self.is_home_of(comp, micro) && !stopped
-    }
-
-    /// Whether the next handler step of a computation may begin.
-    pub(crate) fn is_ready(&self, comp: u32) -> bool
-        requires kept { cleared_comps self.now < comp }
-        requires admitted { comp ≤ length self.now.exts }
-        ensures { IsTrue result ↔ ((micro : ℕ) × IsDue self.now (Step.Enter comp micro)) }
-    {
-        self.recall();
-        match self.next(comp) {
-            None => false,
-            Some((micro, _)) => self.has_turn(comp, micro.0) && self.may_go_out(comp, micro.0),
-        }
+        self.control.shown(node, micro)
     }
 }

@@ -1,23 +1,15 @@
-//! A core, which has several computations open at once and makes their steps.
+//! A core: it has several computations open at once, and an index over them, so that no step looks at a computation that it
+//! can't have changed.
 #![tactic(auto)]
 
-mod admission;
-mod answers;
-mod forms;
-mod grid;
-mod journal;
+mod index;
+mod joining;
+mod keeping;
 mod kernel;
-mod moves;
-mod parts;
-mod routes;
-mod running;
-mod scans;
 mod sent;
-mod single;
-mod slots;
-mod tray;
-mod turn;
+mod settling;
+mod steps;
 
 pub use kernel::Core;
+pub use samoa_control::{Ran, Turn};
 pub use sent::sent_core;
-pub use turn::{Ran, Turn};

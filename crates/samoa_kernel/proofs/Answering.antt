@@ -16,12 +16,12 @@ use Rattle.samoa_invariant.proofs.preservation.Versions.{owns_declares}
 use Rattle.samoa_invariant.proofs.progress.Onward.{none-ended}
 use Rattle.samoa_invariant.proofs.representation.Standing.{stopped_is}
 use Rattle.samoa_invariant.proofs.representation.Traces.{count-most, invariant, points, state-step}
-use Rattle.samoa_core.specs.Known.{decl_number}
-use Rattle.samoa_core.specs.Places.{away, away_in}
-use Rattle.samoa_core.specs.Turns.{Going, IsAway}
-use Rattle.samoa_core.proofs.Counts.{away-back}
-use Rattle.samoa_core.proofs.Declares.{declares_known}
-use Rattle.samoa_core.proofs.Facts.{same-call}
+use Rattle.samoa_control.specs.Known.{decl_number}
+use Rattle.samoa_control.specs.Places.{away, away_in}
+use Rattle.samoa_control.specs.Turns.{Going, IsAway}
+use Rattle.samoa_control.proofs.Counts.{away-back}
+use Rattle.samoa_control.proofs.Declares.{declares_known}
+use Rattle.samoa_control.proofs.Facts.{same-call}
 use Rattle.samoa_kernel.specs.Boards.{IsAtPoint, IsBusy, begun}
 use Rattle.samoa_kernel.specs.declared.board.Entered.{Entered}
 use Rattle.samoa_kernel.specs.Answers.{IsAnswer, IsExact}

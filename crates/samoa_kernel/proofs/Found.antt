@@ -11,8 +11,8 @@ use Rattle.samoa_invariant.specs.Settling.{IsEnd, IsRelease, Settles, with_steps
 use Rattle.samoa_invariant.specs.Runs.{IsRun, Trace, play, with_step}
 use Rattle.samoa_invariant.proofs.representation.Due.{with-both, with-more}
 use Rattle.samoa_invariant.proofs.representation.Standing.{stays_out}
-use Rattle.samoa_core.specs.Places.{seen_in}
-use Rattle.samoa_core.specs.Turns.{Going, IsAway}
+use Rattle.samoa_control.specs.Places.{seen_in}
+use Rattle.samoa_control.specs.Turns.{Going, IsAway}
 use Rattle.samoa_turnstile.proofs.Prefixes.{prefix_trans}
 use Rattle.samoa_turnstile.specs.declared.view.View.{View}
 use Rattle.samoa_turnstile.specs.Seats.{fixed_of, hand_of, list_at_take, misses_of, seen_by, view}

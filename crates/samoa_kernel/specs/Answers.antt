@@ -3,7 +3,7 @@ use Rattle.std.specs.Prelude.{◌≡◌, ℕ, false, length, Option, Some, None}
 use Rattle.samoa_invariant.specs.Picking.{NoEnterIsDue}
 use Rattle.samoa_invariant.specs.State.{AllEnded}
 use Rattle.samoa_invariant.specs.Runs.{Trace, has_abandon, state}
-use Rattle.samoa_core.specs.Turns.{Going}
+use Rattle.samoa_control.specs.Turns.{Going}
 use Rattle.samoa_kernel.specs.declared.board.Entered.{Entered}
 use Rattle.samoa_kernel.specs.Boards.{BoardSeat, Finds, IsBusy, IsPicked, IsStopped, Shows, begun}
 

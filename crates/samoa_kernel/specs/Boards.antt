@@ -6,8 +6,8 @@ use Rattle.samoa_invariant.specs.Picking.{IsFirstToEnter, NoEnterIsDue}
 use Rattle.samoa_invariant.specs.Settling.{Settles}
 use Rattle.samoa_invariant.specs.State.{AllEnded}
 use Rattle.samoa_invariant.specs.Runs.{IsDue, IsRun, Trace, has_abandon, play, serial_at, state, with_step}
-use Rattle.samoa_core.specs.Places.{away}
-use Rattle.samoa_core.specs.Turns.{Going, IsAway}
+use Rattle.samoa_control.specs.Places.{away}
+use Rattle.samoa_control.specs.Turns.{Going, IsAway}
 use Rattle.samoa_turnstile.specs.Seats.{SeatOf, fixed_of, hand_of, seats_of, parts_of, seen_by}
 use Rattle.samoa_kernel.specs.declared.basis.Basis.{Basis}
 use Rattle.samoa_kernel.specs.Bases.{basis_of}

@@ -5,7 +5,7 @@ ghost use Rattle.samoa_invariant.specs.State as model;
 ghost use Rattle.samoa_invariant.specs.Runs.{IsDue, IsRun, Trace, play, state, with_step};
 ghost use Rattle.samoa_invariant.specs.Settling.{Settles};
 ghost use Rattle.samoa_model.specs.declared.record.Step.{Step};
-ghost use Rattle.samoa_core.specs.Turns.{Going, IsAway};
+ghost use Rattle.samoa_control.specs.Turns.{Going, IsAway};
 ghost use Rattle.samoa_kernel.specs.Boards.{IsAtPoint, begun};
 ghost use Rattle.samoa_kernel.specs.Answers.{IsAnswer, after};
 ghost use Rattle.samoa_turnstile.specs.Turning.{longer};

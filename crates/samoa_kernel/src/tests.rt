@@ -4,7 +4,7 @@ ghost use Rattle.samoa_model.specs.Cells.{need};
 ghost use Rattle.samoa_model.specs.Range.{IsInRange};
 ghost use Rattle.samoa_invariant.specs.State as model;
 ghost use Rattle.samoa_invariant.specs.Runs.{play, state};
-ghost use Rattle.samoa_core.specs.Later.{IsStill};
+ghost use Rattle.samoa_control.specs.Later.{IsStill};
 ghost use Rattle.samoa_turnstile.specs.Seats.{IsIdle, IsSameSeat, IsSeatOf, hand_of};
 ghost use Rattle.samoa_kernel.specs.Boards.{IsInHand, IsSameShare};
 

@@ -5,7 +5,7 @@ ghost use Rattle.samoa_model.specs.Range.{IsInRange};
 ghost use Rattle.samoa_serial.specs.Report.{comp_text, entries_text, node_text, states_text};
 ghost use Rattle.samoa_invariant.specs.State.{AllEnded, NothingOut};
 ghost use Rattle.samoa_invariant.specs.Runs.{ext_at, served_at, state};
-ghost use Rattle.samoa_core.specs.Since.{cleared_comps};
+ghost use Rattle.samoa_control.specs.Since.{cleared_comps};
 ghost use Rattle.samoa_ledger.specs.Gathering.{Gathers, HasGathered};
 ghost use Rattle.samoa_ledger.specs.Written.{AreTotals, Counts, closing_text, later_text, states_of};
 

@@ -19,9 +19,9 @@ use Rattle.samoa_invariant.specs.Runs.{CanMake, IsDue, IsRun, Trace, after_step,
 use Rattle.samoa_invariant.proofs.preservation.Slots.{put-else}
 use Rattle.samoa_invariant.proofs.representation.Extended.{made-same}
 use Rattle.samoa_invariant.proofs.representation.Traces.{is_run-with_ext, is_run-with_step, state-ext, state-step}
-use Rattle.samoa_core.specs.Admission as core
-use Rattle.samoa_core.specs.Since.{cleared_comps}
-use Rattle.samoa_core.specs.Turns.{Going}
+use Rattle.samoa_control.specs.Admission as core
+use Rattle.samoa_control.specs.Since.{cleared_comps}
+use Rattle.samoa_control.specs.Turns.{Going}
 use Rattle.samoa_journal.specs.Finished.{IsFirstOfTick, most_cells}
 use Rattle.samoa_ledger.specs.Gathering.{HasGathered}
 use Rattle.samoa_ledger.specs.Written.{AreTotals, later_text}

@@ -3,7 +3,7 @@ use Rattle.std.proofs.Common.{◌≡◌, Some, slice_get, List}
 use Rattle.samoa_model.specs.declared.record.Ext.{Ext}
 use Rattle.samoa_model.specs.Range.{IsExtOf, IsInRange}
 use Rattle.samoa_invariant.specs.Runs.{Trace}
-use Rattle.samoa_core.specs.Turns.{Going}
+use Rattle.samoa_control.specs.Turns.{Going}
 use Rattle.samoa_replay.specs.declared.course.Course.{Course}
 use Rattle.samoa_replay.specs.Following.{IsReady, rest_of}
 use Rattle.samoa_ledger.proofs.Histories.{first_of, part_named}

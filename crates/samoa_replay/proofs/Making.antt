@@ -18,9 +18,9 @@ use Rattle.samoa_invariant.specs.Runs.{CanMake, IsDue, IsRun, Trace, after_step,
 use Rattle.samoa_invariant.proofs.preservation.Slots.{put-else, put-here}
 use Rattle.samoa_invariant.proofs.representation.Extended.{end-same, enter-same, leaves-same, made-same, release-same}
 use Rattle.samoa_invariant.proofs.representation.Traces.{invariant, state-step}
-use Rattle.samoa_core.specs.Steps.{IsNoAdmit}
-use Rattle.samoa_core.specs.Turns.{Going}
-use Rattle.samoa_core.proofs.Since.{cleared-step}
+use Rattle.samoa_control.specs.Steps.{IsNoAdmit}
+use Rattle.samoa_control.specs.Turns.{Going}
+use Rattle.samoa_control.proofs.Since.{cleared-step}
 use Rattle.samoa_journal.specs.Finished.{most_cells}
 use Rattle.samoa_replay.specs.declared.course.Course.{Course}
 use Rattle.samoa_replay.specs.Following.{AreOut, HasMade, IsOnCourse, IsReady, IsRefused, rest_of}

@@ -14,8 +14,8 @@ use Rattle.samoa_invariant.specs.Runs.{CanMake, IsRunFrom, after_step, clear_at,
 use Rattle.samoa_invariant.proofs.preservation.Slots.{turn_declares}
 use Rattle.samoa_invariant.proofs.refinement.Ends.{reached_keeps}
 use Rattle.samoa_invariant.proofs.representation.Extended.{reached_most}
-use Rattle.samoa_core.specs.Known.{decl_number}
-use Rattle.samoa_core.proofs.Declares.{declares_known}
+use Rattle.samoa_control.specs.Known.{decl_number}
+use Rattle.samoa_control.proofs.Declares.{declares_known}
 use Rattle.samoa_journal.specs.Finished.{IsFinished, most_cells}
 
 module _ (script : Script) (in_range : IsInRange script) (exts : List Ext) (cells : ℕ) where

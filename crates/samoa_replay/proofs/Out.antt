@@ -23,10 +23,10 @@ use Rattle.samoa_invariant.proofs.preservation.Slots.{put_at-else, put_at-here, 
 use Rattle.samoa_invariant.proofs.progress.Progress.{ended_stays}
 use Rattle.samoa_invariant.proofs.representation.Standing.{stays_out}
 use Rattle.samoa_invariant.proofs.representation.Traces.{invariant, state-ext, state-step}
-use Rattle.samoa_core.specs.Places.{seen_in}
-use Rattle.samoa_core.specs.Steps.{IsNoAdmit}
-use Rattle.samoa_core.specs.Turns.{Going, IsAway}
-use Rattle.samoa_core.proofs.Facts.{ended-home}
+use Rattle.samoa_control.specs.Places.{seen_in}
+use Rattle.samoa_control.specs.Steps.{IsNoAdmit}
+use Rattle.samoa_control.specs.Turns.{Going, IsAway}
+use Rattle.samoa_control.proofs.Facts.{ended-home}
 use Rattle.samoa_replay.specs.Following.{AreOut}
 
 -- ---- where all have ended, only an admission may come

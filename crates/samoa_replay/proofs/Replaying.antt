@@ -13,7 +13,7 @@ use Rattle.samoa_invariant.specs.State.{AllEnded, Core, NothingOut}
 use Rattle.samoa_invariant.specs.Runs.{IsRun, Trace, cleared, opening_trace, play, state, with_clear, with_step}
 use Rattle.samoa_invariant.proofs.refinement.Ends.{all_home}
 use Rattle.samoa_invariant.proofs.representation.Traces.{invariant, is_run-with_step, state-clear}
-use Rattle.samoa_core.specs.Turns.{Going, IsAway}
+use Rattle.samoa_control.specs.Turns.{Going, IsAway}
 use Rattle.samoa_journal.specs.Finished.{IsComplete, IsFinished, most_cells}
 use Rattle.samoa_ledger.specs.Written.{closing_text, later_text}
 use Rattle.samoa_ledger.proofs.Closing.{report-whole}

@@ -14,8 +14,8 @@ use Rattle.samoa_serial.proofs.LimitLaws.{admitted_by-none, is_limited_by-none}
 use Rattle.samoa_invariant.specs.State.{AllEnded, Core}
 use Rattle.samoa_invariant.specs.Runs.{Trace, cleared, opening_trace, state, with_clear}
 use Rattle.samoa_invariant.proofs.representation.Traces.{state-clear}
-use Rattle.samoa_core.specs.Since.{cleared_comps}
-use Rattle.samoa_core.proofs.Since.{cleared-opening}
+use Rattle.samoa_control.specs.Since.{cleared_comps}
+use Rattle.samoa_control.proofs.Since.{cleared-opening}
 use Rattle.samoa_net.specs.Gathered.{IsPlanFor}
 use Rattle.samoa_ledger.specs.declared.totals.Totals.{Totals}
 use Rattle.samoa_ledger.specs.Gathering.{HasGathered}

@@ -8,8 +8,8 @@ use Rattle.samoa_serial.specs.Alone.{next_step}
 use Rattle.samoa_invariant.specs.State.{Core}
 use Rattle.samoa_invariant.specs.Runs.{IsDue, IsRun, Trace, state, with_step}
 use Rattle.samoa_invariant.proofs.representation.Traces.{is_run-with_step, state-step}
-use Rattle.samoa_core.specs.Turns.{Going, IsAway}
-use Rattle.samoa_core.proofs.Facts.{same-call}
+use Rattle.samoa_control.specs.Turns.{Going, IsAway}
+use Rattle.samoa_control.proofs.Facts.{same-call}
 use Rattle.samoa_replay.specs.declared.course.Course.{Course}
 use Rattle.samoa_replay.specs.Following.{AreOut, HasMade, IsReady, IsRefused}
 use Rattle.samoa_replay.proofs.Making.{step-made, step-refused}

@@ -7,8 +7,8 @@ use Rattle.samoa_model.specs.declared.script.Script.{Script}
 use Rattle.samoa_serial.specs.Ticks.{is_limited_by, most_admitted}
 use Rattle.samoa_invariant.specs.State.{AllEnded}
 use Rattle.samoa_invariant.specs.Runs.{IsDue, Trace, ext_at, state}
-use Rattle.samoa_core.specs.Since.{cleared_comps}
-use Rattle.samoa_core.specs.Turns.{Going, IsAway}
+use Rattle.samoa_control.specs.Since.{cleared_comps}
+use Rattle.samoa_control.specs.Turns.{Going, IsAway}
 use Rattle.samoa_journal.specs.Finished.{most_cells}
 use Rattle.samoa_ledger.specs.Gathering.{HasGathered}
 use Rattle.samoa_ledger.specs.Left.{IsLeft}

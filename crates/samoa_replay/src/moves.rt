@@ -1,7 +1,7 @@
 //! The steps of a journal, each tested before it is made.
 ghost use Rattle.std.specs.Prelude.{◌≡◌, ◌≢◌, ◌<◌, ◌++◌, ◌∷◌, [], ℕ, true, false, length, slice_get, slice_index_or, Some, All, IfOk, IfSome, IfNone};
 ghost use Rattle.samoa_model.specs.declared.record.Step.{Step as StepValue};
-ghost use Rattle.samoa_core.specs.Turns.{Going};
+ghost use Rattle.samoa_control.specs.Turns.{Going};
 ghost use Rattle.samoa_replay.specs.Following.{AreOut, HasMade, IsOver, IsReady, IsRefused};
 
 use crate::replay::Replay;

@@ -11,9 +11,9 @@ use Rattle.samoa_serial.specs.Alone.{next_step}
 use Rattle.samoa_invariant.specs.Play.{Play}
 use Rattle.samoa_invariant.specs.State as model
 use Rattle.samoa_invariant.specs.Runs.{IsRising, IsRun, Trace, after_step, clear_at, cleared, is_clear, play, run_from, state}
-use Rattle.samoa_core.specs.Later.{IsLater}
-use Rattle.samoa_core.specs.Since.{admissions, cleared_comps, last_of}
-use Rattle.samoa_core.proofs.Since.{last-most}
+use Rattle.samoa_control.specs.Later.{IsLater}
+use Rattle.samoa_control.specs.Since.{admissions, cleared_comps, last_of}
+use Rattle.samoa_control.proofs.Since.{last-most}
 
 -- the same script, cells, admissions and clears, and a longer journal
 abbrev goes_on : Trace → List Step → Trace

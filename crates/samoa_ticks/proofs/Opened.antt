@@ -13,9 +13,9 @@ use Rattle.samoa_model.specs.Scripts.{decl_of, no_decl}
 use Rattle.samoa_invariant.specs.State as model
 use Rattle.samoa_invariant.specs.Runs.{IsRun, Trace, ext_at, no_ext, play, state, with_ext}
 use Rattle.samoa_invariant.proofs.representation.Traces.{is_run-with_ext, state-ext, state-step}
-use Rattle.samoa_core.specs.Admission.{admitted}
-use Rattle.samoa_core.specs.Since.{cleared_comps}
-use Rattle.samoa_core.proofs.Since.{cleared-ext, cleared-step}
+use Rattle.samoa_control.specs.Admission.{admitted}
+use Rattle.samoa_control.specs.Since.{cleared_comps}
+use Rattle.samoa_control.proofs.Since.{cleared-ext, cleared-step}
 use Rattle.samoa_journal.specs.Parts.{admits, cells_for}
 use Rattle.samoa_ticks.specs.Running.{HasOpened}
 

@@ -9,7 +9,7 @@ use Rattle.samoa_model.specs.Cells.{cells_of}
 use Rattle.samoa_serial.specs.Lists.{Each}
 use Rattle.samoa_serial.proofs.ListLaws.{each_weaker}
 use Rattle.samoa_invariant.specs.Runs.{Trace, ext_at, state, with_clear}
-use Rattle.samoa_core.specs.Later.{IsLater}
+use Rattle.samoa_control.specs.Later.{IsLater}
 use Rattle.samoa_journal.specs.Parts.{IsLastLongest, IsPacked, IsPart, Part, admits, cells_for, exts_of}
 use Rattle.samoa_journal.proofs.Parts.{IsMore, packed_more}
 use Rattle.samoa_journal.proofs.Opens.{admit_none}

@@ -9,9 +9,9 @@ use Rattle.samoa_invariant.specs.State as model
 use Rattle.samoa_invariant.specs.State.{AllEnded, NothingOut}
 use Rattle.samoa_invariant.specs.Runs.{Trace, cleared, state, with_clear}
 use Rattle.samoa_invariant.proofs.representation.Traces.{state-clear}
-use Rattle.samoa_core.specs.Later.{IsLater}
-use Rattle.samoa_core.specs.Since.{cleared_comps}
-use Rattle.samoa_core.proofs.Since.{cleared-clear}
+use Rattle.samoa_control.specs.Later.{IsLater}
+use Rattle.samoa_control.specs.Since.{cleared_comps}
+use Rattle.samoa_control.proofs.Since.{cleared-clear}
 use Rattle.samoa_ledger.specs.declared.totals.Totals.{Totals}
 use Rattle.samoa_ticks.specs.Running.{HasOpened, HasRun}
 use Rattle.samoa_ledger.specs.Written.{AreTotals, later_text}

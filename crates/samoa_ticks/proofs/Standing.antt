@@ -14,7 +14,7 @@ use Rattle.samoa_serial.specs.History.{batch}
 use Rattle.samoa_serial.specs.Ticks.{admitted, admitted_by, is_limited, is_limited_by, most_admitted}
 use Rattle.samoa_serial.proofs.LimitLaws.{admitted_by-none, is_limited_by-none}
 use Rattle.samoa_invariant.specs.Runs.{Trace, opening_trace, state, with_clear}
-use Rattle.samoa_core.specs.Since.{cleared_comps}
+use Rattle.samoa_control.specs.Since.{cleared_comps}
 use Rattle.samoa_net.specs.Gathered.{IsPlanFor}
 use Rattle.samoa_journal.specs.Parts.{IsPacked}
 use Rattle.samoa_journal.proofs.Parts.{packed_none}

@@ -5,7 +5,7 @@ use Rattle.samoa_model.specs.declared.script.Script.{Script}
 use Rattle.samoa_model.specs.Cells.{need}
 use Rattle.samoa_invariant.specs.State.{AllEnded, NothingOut}
 use Rattle.samoa_invariant.specs.Runs.{Trace, state}
-use Rattle.samoa_core.specs.Since.{cleared_comps}
+use Rattle.samoa_control.specs.Since.{cleared_comps}
 use Rattle.samoa_ledger.specs.declared.totals.Totals.{Totals}
 use Rattle.samoa_model.specs.declared.record.Step.{Step}
 use Rattle.samoa_report.specs.Steps.{journal_text}

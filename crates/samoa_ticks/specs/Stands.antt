@@ -6,8 +6,8 @@ use Rattle.samoa_model.specs.Cells.{cells_of}
 use Rattle.samoa_serial.specs.Ticks.{is_limited_by, most_admitted}
 use Rattle.samoa_invariant.specs.State.{AllEnded, NothingOut}
 use Rattle.samoa_invariant.specs.Runs.{Trace, state}
-use Rattle.samoa_core.specs.Later.{IsLater}
-use Rattle.samoa_core.specs.Since.{cleared_comps}
+use Rattle.samoa_control.specs.Later.{IsLater}
+use Rattle.samoa_control.specs.Since.{cleared_comps}
 use Rattle.samoa_journal.specs.Parts.{IsPacked}
 use Rattle.samoa_ledger.specs.Gathering.{HasGathered}
 use Rattle.samoa_ledger.specs.Left.{IsLeft}

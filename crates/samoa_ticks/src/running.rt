@@ -5,8 +5,8 @@ ghost use Rattle.samoa_model.specs.Cells.{cells_of, need};
 ghost use Rattle.samoa_model.specs.Range.{IsExtOf};
 ghost use Rattle.samoa_invariant.specs.State.{AllEnded, IsSettled, NothingOut};
 ghost use Rattle.samoa_invariant.specs.Runs.{play, state};
-ghost use Rattle.samoa_core.specs.Later.{IsLater};
-ghost use Rattle.samoa_core.specs.Since.{cleared_comps};
+ghost use Rattle.samoa_control.specs.Later.{IsLater};
+ghost use Rattle.samoa_control.specs.Since.{cleared_comps};
 ghost use Rattle.samoa_ticks.specs.Running.{HasOpened};
 
 use samoa_core::Core;

@@ -5,14 +5,14 @@ use Rattle.std.proofs.lemmas.List.{append-nil}
 use mathlib.Core.List.{IsPrefix}
 use Rattle.samoa_model.specs.declared.record.Step.{Step}
 use Rattle.samoa_invariant.specs.Runs.{IsRun, Trace}
-use Rattle.samoa_core.specs.Later.{IsLater}
+use Rattle.samoa_control.specs.Later.{IsLater}
 use Rattle.samoa_turnstile.specs.Seats.{fixed_of, hand_of, parts_of, seats_of, seen_by, IsIdle, IsSameSeat}
 use Rattle.samoa_turnstile.proofs.Prefixes.{prefix_trans}
 use Rattle.samoa_kernel.specs.declared.basis.Basis.{Basis}
 use Rattle.samoa_kernel.specs.declared.board.Board.{Board}
 use Rattle.samoa_kernel.specs.Bases.{basis_of}
-use Rattle.samoa_core.specs.Since.{cleared_comps}
-use Rattle.samoa_core.proofs.Since.{cleared-more}
+use Rattle.samoa_control.specs.Since.{cleared_comps}
+use Rattle.samoa_control.proofs.Since.{cleared-more}
 use Rattle.samoa_kernel.specs.Boards.{BoardSeat, Finds, Shows}
 use Rattle.samoa_workers.specs.Seats.{HasWorked, IsReady}
 use Rattle.samoa_workers.specs.Members.{GoesOn, IsMember}

@@ -2,7 +2,7 @@
 ghost use Rattle.std.specs.Prelude.{◌≡◌, ℕ, ◌<◌, ◌≤◌, ◌↔◌, ◌+◌, ◌-◌, All, List, Option, length, slice_index_or, vec_capacity, vec_len};
 ghost use Rattle.samoa_invariant.specs.State as model;
 ghost use Rattle.samoa_invariant.specs.Runs.{play, state};
-ghost use Rattle.samoa_core.specs.Later.{IsLater};
+ghost use Rattle.samoa_control.specs.Later.{IsLater};
 ghost use Rattle.samoa_model.specs.declared.record.Step.{Step};
 ghost use Rattle.samoa_turnstile.specs.Seats.{IsIdle, IsSeatOf, fixed_of, parts_of, seats_of, seen_by};
 ghost use Rattle.samoa_kernel.specs.declared.basis.Basis.{Basis};

@@ -4,7 +4,7 @@ use Rattle.samoa_invariant.specs.Picking.{IsFirstToEnter}
 use Rattle.samoa_invariant.specs.State.{AllEnded}
 use Rattle.samoa_invariant.specs.Runs.{IsDue, Trace, state}
 use Rattle.samoa_invariant.proofs.representation.Standing.{stopped_is}
-use Rattle.samoa_core.specs.Turns.{Going}
+use Rattle.samoa_control.specs.Turns.{Going}
 use Rattle.samoa_kernel.proofs.Answering.{busy, not_all}
 use Rattle.samoa_kernel.proofs.board.answer.Goals as goal
 

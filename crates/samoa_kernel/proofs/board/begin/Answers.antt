@@ -3,7 +3,7 @@ use Rattle.samoa_model.specs.declared.record.Step.{Step}
 use Rattle.samoa_invariant.specs.State.{IsSettled}
 use Rattle.samoa_invariant.specs.Runs.{IsDue, Trace, play, state}
 use Rattle.samoa_invariant.proofs.settling.Releasing.{enter-settled}
-use Rattle.samoa_core.specs.Turns.{Going}
+use Rattle.samoa_control.specs.Turns.{Going}
 use Rattle.samoa_kernel.proofs.Answering.{at_point, begun_due}
 use Rattle.samoa_kernel.proofs.board.begin.Goals as goal
 

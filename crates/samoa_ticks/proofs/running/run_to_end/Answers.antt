@@ -1,5 +1,5 @@
-use Rattle.samoa_core.specs.Later.{IsLater}
-use Rattle.samoa_core.proofs.Later.{later-trans}
+use Rattle.samoa_control.specs.Later.{IsLater}
+use Rattle.samoa_control.proofs.Later.{later-trans}
 use Rattle.samoa_ticks.proofs.Kept.{cleared-later, held-later}
 use Rattle.samoa_ticks.proofs.running.run_to_end.Goals as goal
 

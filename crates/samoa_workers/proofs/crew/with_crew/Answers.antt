@@ -1,7 +1,7 @@
 use Rattle.std.proofs.Common.{◌≡◌, ◌∙◌, subst, sym}
 use Rattle.samoa_invariant.specs.State.{NothingOut}
 use Rattle.samoa_invariant.specs.Runs.{Trace, state}
-use Rattle.samoa_core.specs.Later.{IsLater}
+use Rattle.samoa_control.specs.Later.{IsLater}
 use Rattle.samoa_workers.proofs.Shares.{later_same, later_than}
 use Rattle.samoa_workers.proofs.crew.with_crew.Goals as goal
 

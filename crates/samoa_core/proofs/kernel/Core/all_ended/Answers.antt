@@ -1,12 +1,8 @@
-use Rattle.std.proofs.Common.{subst, ◌≡◌, ◌↔◌, ◌==◌, true}
+use Rattle.std.proofs.Common.{◌↔◌, subst}
+use Rattle.std.specs.Prelude.{IsTrue}
 use Rattle.samoa_invariant.specs.State as model
 use Rattle.samoa_invariant.specs.Runs.{Trace, state}
-use Rattle.samoa_core.specs.Fields.{fields_of}
-use Rattle.samoa_core.specs.Kept.{Fields, trace_of}
-use Rattle.samoa_core.proofs.Counts.{ended-test}
 use Rattle.samoa_core.proofs.kernel.Core.all_ended.Goals as goal
 
 pub returns : goal.returns
-returns g c =
-    let fs : Fields = fields_of c.self.inside in
-    subst (λ (x : Trace). ((fs.unended == 0) ≡ true) ↔ model.AllEnded (state x)) c.self.view_is (ended-test (state (trace_of fs)) fs.unended c.self.invariant.holds.unended)
+returns g c = subst (λ (x : Trace). IsTrue c.all_ended.result ↔ model.AllEnded (state x)) c.self.view_is c.all_ended.ensures

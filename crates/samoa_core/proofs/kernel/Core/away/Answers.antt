@@ -1,6 +1,6 @@
 use Rattle.std.proofs.Common.{ap, ◌∙◌}
-use Rattle.samoa_core.specs.Places.{away}
+use Rattle.samoa_control.specs.Places.{away}
 use Rattle.samoa_core.proofs.kernel.Core.away.Goals as goal
 
 pub returns : goal.returns
-returns g c = c.self.invariant.holds.away ∙ ap away c.self.view_is
+returns g c = c.away.ensures ∙ ap away c.self.view_is

@@ -1,6 +1,6 @@
 use Rattle.std.proofs.Common.{◌∙◌, ap, arith, refl, sym}
 use Rattle.std.proofs.lemmas.Bool.{false≢true}
-use Rattle.samoa_core.specs.Since.{cleared_comps}
+use Rattle.samoa_control.specs.Since.{cleared_comps}
 use Rattle.samoa_replay.specs.Following.{rest_of}
 use Rattle.samoa_replay.proofs.Admitting.{admit_made, few, none_refused, number_refused, wide_refused}
 use Rattle.samoa_ledger.proofs.Histories.{part_few}

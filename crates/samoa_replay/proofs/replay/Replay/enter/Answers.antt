@@ -1,5 +1,5 @@
 use Rattle.std.proofs.Common.{◌∙◌, ◌++◌, ◌∷◌, [], List, ap, sym}
-use Rattle.samoa_core.specs.Turns.{Going}
+use Rattle.samoa_control.specs.Turns.{Going}
 use Rattle.std.proofs.lemmas.Bool.{false≢true}
 use Rattle.samoa_model.specs.declared.record.Step.{Step}
 use Rattle.samoa_replay.proofs.Making.{step-refused}

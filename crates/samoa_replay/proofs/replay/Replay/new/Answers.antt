@@ -1,6 +1,6 @@
 use Rattle.std.proofs.Common.{List, ap, arith, length, subst, sym}
 use Rattle.samoa_invariant.specs.Runs.{Trace}
-use Rattle.samoa_core.specs.Turns.{Going}
+use Rattle.samoa_control.specs.Turns.{Going}
 use Rattle.samoa_replay.specs.Following.{IsOnCourse, IsReady}
 use Rattle.samoa_replay.proofs.Replaying.{ready_first}
 use Rattle.samoa_replay.proofs.Runnable.{few_needed}

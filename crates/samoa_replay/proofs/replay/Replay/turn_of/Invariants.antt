@@ -1,6 +1,6 @@
 use Rattle.std.proofs.Common.{◌≢◌, ◌-◌, ◌<◌, ◌≤◌, ℕ, length}
 use Rattle.std.specs.Prelude.{slice_index_or}
-use Rattle.samoa_core.specs.Turns.{Going}
+use Rattle.samoa_control.specs.Turns.{Going}
 use Rattle.samoa_replay.proofs.replay.Replay.turn_of.Given as goal
 
 abbrev pub invariant-loop-at : goal.invariant-loop-at

@@ -1,7 +1,0 @@
-use Rattle.samoa_core.specs.Fields.{fields_of}
-use Rattle.samoa_core.proofs.Going.{home-test}
-use Rattle.samoa_core.proofs.kernel.Core.is_home.Goals as goal
-
-pub returns : goal.returns
-returns g c =
-    home-test (fields_of c.self.inside) c.args.self.now c.args.node c.args.micro c.is_home.result c.self.view_is c.self.invariant c.requires.node c.requires.micro c.is_home.ensures
