@@ -59,11 +59,11 @@ fn handler_of(caller: Option<Call>) -> Option<HandlerId>
 }
 
 /// Enters one call per handler, with the numbers after `made`.
-fn enter(entries: &mut Transcript, made: u32, caller: u32, arg: Words, handlers: &[HandlerId])
+fn enter(entries: &mut Transcript, made: u32, caller: u32, arg: &Words, handlers: &[HandlerId])
     requires room { length handlers.now ≤ entries.old.room }
     requires numbers { made + length handlers.now < 2 ^ 32 }
     ensures entries { entries.new.entries
-        ≡ entries.old.entries ++ map (entry_of caller arg) (calls_from made handlers.now) }
+        ≡ entries.old.entries ++ map (entry_of caller arg.now) (calls_from made handlers.now) }
     ensures room { entries.new.room + length handlers.now ≡ entries.old.room }
 {
     let mut number = made;
@@ -73,7 +73,7 @@ fn enter(entries: &mut Transcript, made: u32, caller: u32, arg: Words, handlers:
             call: number,
             caller,
             handler: *handler,
-            arg,
+            arg: *arg,
         });
     }
 }
@@ -110,10 +110,11 @@ pub(crate) fn attempt(
     ensures entries_capacity { entries.new.room + length entries.new.entries
         ≡ entries.old.room + length entries.old.entries }
 {
-    let mut tested = *visits;
-    let refused = refusal(decl, &mut tested, handler_of(caller), handlers);
+    let before = *visits;
+    let refused = refusal(decl, visits, handler_of(caller), handlers);
     match refused {
         Some(refusal) => {
+            *visits = before;
             entries.push(Entry::Refused {
                 caller: number_of(caller),
                 event: Some(event),
@@ -121,9 +122,8 @@ pub(crate) fn attempt(
             });
         }
         None => {
-            enter(entries, made, number_of(caller), arg, handlers);
-            activate(active, made, arg, handlers);
-            *visits = tested;
+            enter(entries, made, number_of(caller), &arg, handlers);
+            activate(active, made, &arg, handlers);
         }
     }
     refused

@@ -8,11 +8,11 @@ use samoa_model::{HandlerId, Moment, Reply, Words};
 use samoa_serial::{Active, Call, Due};
 
 /// Makes one call per handler active, with the numbers after `made`, the first of them innermost.
-pub(crate) fn activate(active: &mut Vec<Active>, made: u32, arg: Words, handlers: &[HandlerId])
+pub(crate) fn activate(active: &mut Vec<Active>, made: u32, arg: &Words, handlers: &[HandlerId])
     requires room { length active.old.items + length handlers.now ≤ vec_capacity active.old }
     requires numbers { made + length handlers.now < 2 ^ 32 }
     ensures active { reverse active.new.items
-        ≡ to_begin arg (calls_from made handlers.now) ++ reverse active.old.items }
+        ≡ to_begin arg.now (calls_from made handlers.now) ++ reverse active.old.items }
     ensures capacity { vec_capacity active.new ≡ vec_capacity active.old }
 {
     let mut left = handlers.len();
@@ -26,7 +26,7 @@ pub(crate) fn activate(active: &mut Vec<Active>, made: u32, arg: Words, handlers
             },
             due: Due::Next(Moment::Begin {
                 handler: handler.index,
-                arg,
+                arg: *arg,
             }),
         });
     }

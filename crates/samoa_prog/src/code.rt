@@ -1,8 +1,10 @@
 //! The code of a scripted handler, carried out.
-ghost use Rattle.std.specs.Prelude.{◌≡◌, ◌+◌, ◌<◌, ◌^◌, length};
+ghost use Rattle.std.specs.Prelude.{◌≡◌, ◌+◌, ◌<◌, ◌^◌, Some, true, length};
 ghost use Rattle.std.specs.Option.{option_copied};
-ghost use Rattle.samoa_serial.specs.Kinds.{ends_with, carry_out as carried_out, run_from, resumed, waited as has_waited, code_of as refusal_code, port_at as setup_port, change_at_place, dest_of as node_dest};
-ghost use Rattle.samoa_prog.specs.Instructions.{given_by};
+ghost use Rattle.samoa_serial.specs.Kinds.{Numbers as Held, ends_with, carry_out as carried_out, run_from, resumed, waited as has_waited, code_of as refusal_code, port_at as setup_port, change_at_place, dest_of as node_dest};
+ghost use Rattle.samoa_model.specs.declared.handler.Outcome.{Outcome};
+ghost use Rattle.samoa_model.specs.declared.setup.Setup.{Setup as SetWith};
+ghost use Rattle.samoa_prog.specs.Instructions.{given_by, gives};
 
 use crate::numbers::Numbers;
 use samoa_model::{
@@ -52,35 +54,38 @@ fn code_of(refusal: Refusal) -> u64
 }
 
 /// Carries out the code of a handler, from a place on. It is done with no word where there is no such handler.
-pub fn run(
-    setup: &Setup,
-    code: Option<&Listed<Instr>>,
-    at: u64,
-    numbers: Numbers,
-) -> (Numbers, Outcome)
-    ensures { ends_with result.0 result.1 ≡ run_from setup.now (option_copied code.entry) at numbers }
+pub fn run(setup: &Setup, code: Option<&Listed<Instr>>, at: u64, numbers: &mut Numbers) -> Outcome
+    ensures { ends_with numbers.new result ≡ run_from setup.now (option_copied code.entry) at numbers.old }
 {
-    let nothing = Outcome::Done {
-        reply: Words::new(),
-    };
+    let (next, last) = carry_out(at, rest_of(code, at), numbers);
+    outcome_of(setup, next, numbers, last)
+}
+
+/// The instructions of a handler from a place on, none where there is no such handler.
+fn rest_of(code: Option<&Listed<Instr>>, at: u64) -> &[Instr]
+    ensures rest { (setup : SetWith) (n : Held) → carried_out setup 0 at result.now n ≡ run_from setup (option_copied code.entry) at n }
+    ensures places { at + length result.now < 2 ^ 64 }
+{
     let Some(code) = code else {
-        return (numbers, nothing);
+        return &[];
     };
     let code = code.as_slice();
     let from = at as usize;
     if from < code.len() {
-        carry_out(setup, at, &code[from..], numbers)
+        &code[from..]
     } else {
-        (numbers, nothing)
+        &[]
     }
 }
 
-/// Carries out the instructions that are left, the first of which stands at `at`, until one gives an outcome.
-fn carry_out(setup: &Setup, at: u64, code: &[Instr], numbers: Numbers) -> (Numbers, Outcome)
+/// Carries out the instructions that are left, the first of which stands at `at`, until one gives an outcome. Answers that
+/// one, and where the next stands; past the last, one that is done with no word. So the outcome is made in one place.
+fn carry_out(at: u64, code: &[Instr], numbers: &mut Numbers) -> (u64, Instr)
     requires { at + length code.now < 2 ^ 64 }
-    ensures { ends_with result.0 result.1 ≡ carried_out setup.now 0 at code.now numbers }
+    ensures gives { gives result.1 ≡ true }
+    ensures carried { (setup : SetWith) (outcome : Outcome) → given_by setup result.0 numbers.new result.1 ≡ Some outcome
+        → ends_with numbers.new outcome ≡ carried_out setup 0 at code.now numbers.old }
 {
-    let mut numbers = numbers;
     let mut next = at;
     let mut skip = 0u32;
     for instr in code {
@@ -89,20 +94,35 @@ fn carry_out(setup: &Setup, at: u64, code: &[Instr], numbers: Numbers) -> (Numbe
             skip -= 1;
             continue;
         }
-        if let Some(outcome) = outcome_of(setup, next, &numbers, *instr) {
-            return (numbers, outcome);
+        if gives_outcome(instr) {
+            return (next, *instr);
         }
         skip = numbers.work(*instr);
     }
-    let reply = Words::new();
-    (numbers, Outcome::Done { reply })
+    (next, Instr::Done { k: 0 })
 }
 
-/// The outcome that an instruction gives, where it gives one; the next instruction stands at `next`.
-fn outcome_of(setup: &Setup, next: u64, numbers: &Numbers, instr: Instr) -> Option<Outcome>
-    ensures { result ≡ given_by setup.now next numbers.now instr }
+/// Whether an instruction gives an outcome.
+fn gives_outcome(instr: &Instr) -> bool
+    ensures { result ≡ gives instr.now }
 {
-    Some(match instr {
+    matches!(
+        instr,
+        Instr::Call { .. }
+            | Instr::Later { .. }
+            | Instr::Send { .. }
+            | Instr::Deliver { .. }
+            | Instr::Change { .. }
+            | Instr::Done { .. }
+    )
+}
+
+/// The outcome of an instruction that gives one; the next instruction stands at `next`.
+fn outcome_of(setup: &Setup, next: u64, numbers: &Numbers, instr: Instr) -> Outcome
+    requires { gives instr ≡ true }
+    ensures { given_by setup.now next numbers.now instr ≡ Some result }
+{
+    match instr {
         Instr::Call { port, k } => Outcome::Call {
             event: port_at(setup, port),
             arg: numbers.first_locals(k),
@@ -131,8 +151,8 @@ fn outcome_of(setup: &Setup, next: u64, numbers: &Numbers, instr: Instr) -> Opti
         Instr::Done { k } => Outcome::Done {
             reply: numbers.first_locals(k),
         },
-        _ => return None,
-    })
+        _ => unreachable!(),
+    }
 }
 
 /// The event at a port; event 0 past the last port.

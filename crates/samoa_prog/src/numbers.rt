@@ -25,22 +25,30 @@ impl Model for Numbers {
 }
 
 impl Numbers {
-    pub fn new(registers: [u64; 4], locals: [u64; 4]) -> Numbers
+    /// These registers, beside locals of 0.
+    pub fn new(registers: [u64; 4]) -> Numbers
         ensures registers { result.registers ≡ registers }
-        ensures locals { result.locals ≡ locals }
     {
-        Numbers { registers, locals }
+        Numbers {
+            registers,
+            locals: [0; 4],
+        }
     }
 
-    /// The registers, when the step is over.
-    pub fn into_registers(self) -> [u64; 4]
-        ensures { result ≡ self.registers }
+    /// Gives it the locals that a step begins with.
+    pub fn set_locals(&mut self, locals: [u64; 4])
+        ensures registers { self.new.registers ≡ self.old.registers }
+        ensures locals { self.new.locals ≡ locals }
     {
-        let Numbers {
-            registers,
-            locals: _,
-        } = self;
-        registers
+        self.locals = locals;
+    }
+
+    /// The registers as words.
+    pub fn shown(&self) -> Words
+        ensures { result ≡ self.now.registers }
+    {
+        let [a, b, c, d] = self.registers;
+        Words::from_slice(&[a, b, c, d]).unwrap()
     }
 
     /// Carries out an instruction on the numbers, and answers how many instructions are skipped after it. One that
@@ -88,8 +96,14 @@ impl Numbers {
     pub fn first_locals(&self, count: u32) -> Words
         ensures { result ≡ take count self.now.locals }
     {
-        let count = (count as usize).min(self.locals.len());
-        Words::from_slice(&self.locals[..count]).unwrap()
+        let [a, b, c, d] = self.locals;
+        match count {
+            0 => Words::new(),
+            1 => Words::from_slice(&[a]).unwrap(),
+            2 => Words::from_slice(&[a, b]).unwrap(),
+            3 => Words::from_slice(&[a, b, c]).unwrap(),
+            _ => Words::from_slice(&[a, b, c, d]).unwrap(),
+        }
     }
 
     /// What the handler is resumed with later: the place of the next instruction, and the locals.

@@ -9,12 +9,12 @@ use samoa_model::{Kind, Moment, NoMemory, Outcome, Setup, Words};
 use std::alloc::Global;
 
 /// A microprotocol whose handlers are written in the script. It remembers four registers, which begin as the first
-/// four numbers of its setup and which it shows.
+/// four numbers of its setup and which it shows. Beside them lie the locals of the step that was made last.
 #[derive(Drop)]
 pub struct Prog {
     fresh: bool,
     setup: Setup,
-    registers: [u64; 4],
+    numbers: Numbers,
 }
 
 impl Prog {
@@ -26,7 +26,7 @@ impl Prog {
         Prog {
             fresh: true,
             setup: Setup::empty(alloc),
-            registers: [0; 4],
+            numbers: Numbers::new([0; 4]),
         }
     }
 }
@@ -35,7 +35,7 @@ impl Micro for Prog {
     ghost use Rattle.samoa_serial.specs.State.{Registers};
     ghost use Rattle.samoa_model.specs.declared.setup.Kind.TheVariants as kinds;
 
-    ghost seen = { λ p. record { kind = kinds.Prog; fresh = p.fresh; setup = p.setup; state = Registers p.registers } };
+    ghost seen = { λ p. record { kind = kinds.Prog; fresh = p.fresh; setup = p.setup; state = Registers p.numbers.registers } };
 
     fn kind(&self) -> Kind {
         Kind::Prog
@@ -43,7 +43,7 @@ impl Micro for Prog {
 
     fn set_up(&mut self, alloc: Global, setup: &Setup) -> Result<(), NoMemory> {
         self.setup = setup.copied(alloc)?;
-        self.registers = four_words(&setup.nums);
+        self.numbers = Numbers::new(four_words(&setup.nums));
         self.fresh = false;
         Ok(())
     }
@@ -55,29 +55,28 @@ impl Micro for Prog {
         ensures state { ⟦<Prog as Micro>⟧.seen self.new
             ≡ after_step (⟦<Prog as Micro>⟧.seen self.old) moment.now }
     {
-        let (numbers, outcome) = match moment {
+        let (handler, at) = match moment {
             Moment::Begin { handler, arg } => {
-                let code = self.setup.code(*handler);
-                let numbers = Numbers::new(self.registers, four_words(arg));
-                run(&self.setup, code, 0, numbers)
+                self.numbers.set_locals(four_words(arg));
+                (*handler, 0)
             }
             Moment::Resume {
                 handler,
                 frame,
                 reply,
             } => {
-                let code = self.setup.code(*handler);
                 let at = frame.word_or_zero(0);
-                let locals = resumed_locals(waited(code, at), locals_of(frame), reply);
-                run(&self.setup, code, at, Numbers::new(self.registers, locals))
+                let waited = waited(self.setup.code(*handler), at);
+                let locals = resumed_locals(waited, locals_of(frame), reply);
+                self.numbers.set_locals(locals);
+                (*handler, at)
             }
         };
-        self.registers = numbers.into_registers();
-        Ok(outcome)
+        let code = self.setup.code(handler);
+        Ok(run(&self.setup, code, at, &mut self.numbers))
     }
 
     fn show(&self) -> Words {
-        let [a, b, c, d] = self.registers;
-        Words::from_slice(&[a, b, c, d]).unwrap()
+        self.numbers.shown()
     }
 }

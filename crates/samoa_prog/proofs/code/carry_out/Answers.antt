@@ -22,5 +22,5 @@ loop-instr-preserved-then-skip-gt0 c =
     let within : at.instr-index < length c.args.code.now = omega arith in
     record {
       place = omega arith;
-      rest = sym (skipped c.args.setup.now at.skip at.next c.args.code.now at.instr-index at.numbers more within) ∙ at.invariant.rest;
+      rest = λ setup. sym (skipped setup at.skip at.next c.args.code.now at.instr-index at.numbers more within) ∙ at.invariant.rest setup;
     }

@@ -1,4 +1,5 @@
 use Rattle.std.proofs.Common.{◌≡◌, ◌+◌, drop}
+use Rattle.samoa_model.specs.declared.setup.Setup.{Setup}
 use Rattle.samoa_serial.specs.Kinds.{carry_out}
 use Rattle.samoa_prog.proofs.code.carry_out.Given as goal
 
@@ -6,5 +7,5 @@ use Rattle.samoa_prog.proofs.code.carry_out.Given as goal
 abbrev pub invariant-loop-instr : goal.invariant-loop-instr
 invariant-loop-instr l = record {
   place : l.next ≡ l.fn.at + l.instr-index;
-  rest : carry_out l.setup l.skip l.next (drop l.instr-index l.code) l.numbers ≡ carry_out l.setup 0 l.fn.at l.code l.fn.numbers;
+  rest : (setup : Setup) → carry_out setup l.skip l.next (drop l.instr-index l.code) l.numbers ≡ carry_out setup 0 l.fn.at l.code l.fn.numbers;
 }
