@@ -1,5 +1,5 @@
 -- Who may enter, who holds a microprotocol, and what is declared.
-use Rattle.std.proofs.Common.{arith, ◌≡◌, ◌↔◌, ℕ, ◌+◌, ◌-◌, ◌*◌, ◌<◌, ◌≤◌, refl, sym, ap, subst, ◌∙◌, length, Bool, true, Option, Some, None}
+use Rattle.std.proofs.Common.{arith, ◌≡◌, ◌↔◌, ℕ, ◌+◌, ◌<◌, refl, sym, ap, subst, ◌∙◌, length, Bool, true, Some, None}
 use Rattle.std.specs.Prelude.{slice_get}
 use Rattle.samoa_model.specs.Allowed.{weight}
 use Rattle.samoa_model.specs.declared.handler.Moment.{Moment}
@@ -12,7 +12,6 @@ use Rattle.samoa_invariant.specs.State as model
 use Rattle.samoa_invariant.specs.Runs.{IsRun, Trace, ext_at, play, state}
 use Rattle.samoa_invariant.proofs.representation.Traces.{invariant}
 use Rattle.samoa_control.specs.Running.{IsRunning, turn_of}
-use Rattle.samoa_control.specs.Sound.{IsSound}
 use Rattle.samoa_control.specs.declared.running.Interval.{Interval}
 use Rattle.samoa_control.specs.declared.running.Running.{Running}
 use Rattle.samoa_control.proofs.Asked.{IsOutAt, next-at, next-once, out-at}
@@ -36,14 +35,16 @@ enters-is t k step b run next turn test = ((λ yes. begins (test.0 yes)), (λ ma
   where
     begins : (state t).out ((play t).node k) step.0.0 ≡ None → MayEnter (play t) (state t) k
     begins home =
-        let at : model.IsNextAt ((state t).comp k) step.0.0 = next-at t k step next in
-        (step.0.0, record {
-          next = at;
-          not_out = λ v q out. none-out t k step.0.0 run at home v q out;
-          turn = record { admitted = turn.admitted; turn = turn.turn };
-          home = home;
-          running = refl;
-        })
+        let at : model.IsNextAt ((state t).comp k) step.0.0 = next-at t k step next in (
+          step.0.0,
+          record {
+            next = at;
+            not_out = λ v q out. none-out t k step.0.0 run at home v q out;
+            turn = record { admitted = turn.admitted; turn = turn.turn };
+            home = home;
+            running = refl;
+          },
+        )
 
     free : MayEnter (play t) (state t) k → (state t).out ((play t).node k) step.0.0 ≡ None
     free may =

@@ -16,10 +16,10 @@ ghost use Rattle.samoa_control.specs.Kept.{AreTables};
 ghost use Rattle.samoa_control.specs.Later.{IsStill};
 ghost use Rattle.samoa_control.specs.Since.{cleared_comps};
 
+use crate::control::Control;
 use crate::forms::{named_count, weight};
 use crate::grid::place;
 use crate::journal::{Journal, sum};
-use crate::control::Control;
 use crate::parts::{cells_of, decl_in, decl_number, root_of};
 use crate::running::{Interval, Running};
 use samoa_bind::Tables;

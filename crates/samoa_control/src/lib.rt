@@ -3,15 +3,15 @@
 
 mod admission;
 mod answers;
+mod control;
+mod due;
 mod forms;
 mod grid;
 mod journal;
-mod control;
 mod moves;
 mod parts;
 mod routes;
 mod running;
-mod due;
 mod single;
 mod slots;
 mod tray;

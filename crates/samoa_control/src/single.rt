@@ -7,8 +7,8 @@ ghost use Rattle.samoa_control.specs.Later.{IsLater};
 ghost use Rattle.samoa_control.specs.Since.{cleared_comps};
 ghost use Rattle.samoa_control.specs.Steps.{IsNoAdmit};
 
-use crate::grid::place;
 use crate::control::Control;
+use crate::grid::place;
 use crate::running::end_at;
 use samoa_micro::Micro;
 use samoa_model::Step;
