@@ -20,7 +20,7 @@ use samoa_ends::Sink;
 use samoa_ledger::Totals;
 use samoa_micro::Micro;
 use samoa_model::Script;
-use samoa_workers::Gate;
+use samoa_workers::{Gate, crew_for};
 use std::alloc::Global;
 use std::marker::Send;
 use std::sync::Wait;
@@ -68,9 +68,9 @@ pub fn run_one_by_one<B: Micro, K: Sink>(
 }
 
 /// Runs a script on workers behind a gate, in a core that was made for it and has made no step, and writes its report, with
-/// the lines of calls where `calls` is given. No more workers work than there are computations, and one of them works on
-/// the calling thread. Gives the core back, and answers whether the limit of computations ended the run, with the totals of
-/// all that was admitted. It may wait.
+/// the lines of calls where `calls` is given. Of the workers each part has as many as it is worth (`crew_for`), one of them
+/// on the calling thread. Gives the core back, and answers whether the limit of computations ended the run, with the totals
+/// of all that was admitted. It may wait.
 pub fn run_on_workers<B: Micro + Send, K: Sink, G: Gate + Sync, R: Threads + Wait + Sync>(
     rt: &R,
     alloc: Global,
@@ -108,7 +108,7 @@ pub fn run_on_workers<B: Micro + Send, K: Sink, G: Gate + Sync, R: Threads + Wai
             break;
         }
         let _opened = core.admitted();
-        let crew = count.min(workers as usize) as u32;
+        let crew = crew_for(count, workers, gate);
         let (later, ended) = work_to_end(rt, alloc, core, crew, gate);
         core = later;
         let Ok(()) = ended else {
