@@ -1,5 +1,5 @@
 -- Handler steps that come back, and releases: what may be noted after them, and the index that comes of it.
-use Rattle.std.proofs.Common.{arith, ◌≡◌, ◌⊎◌, inl, inr, ◌↔◌, ℕ, ◌-◌, ◌<◌, ◌≤◌, refl, sym, ap, subst, ◌∙◌, length, Bool, true, false, Some}
+use Rattle.std.proofs.Common.{arith, ◌≡◌, ◌⊎◌, inl, inr, ◌↔◌, ℕ, ◌-◌, ◌<◌, ◌≤◌, refl, sym, subst, length, Bool, true, false, Some}
 use Rattle.samoa_versions.specs.Ready.{is_member}
 use Rattle.samoa_model.specs.declared.record.Step.{Step}
 use Rattle.samoa_invariant.specs.Index.{Index, left}

@@ -1,5 +1,5 @@
 -- An index of no computation, before anything is admitted and after a clear.
-use Rattle.std.proofs.Common.{arith, ◌≡◌, ◌↔◌, ℕ, ◌+◌, ◌*◌, ◌-◌, ◌<◌, refl, sym, ap, subst, ◌∙◌, length, replicate, Bool, true, false, if◌then◌else◌, Option, None}
+use Rattle.std.proofs.Common.{arith, ◌≡◌, ◌↔◌, ℕ, ◌+◌, ◌*◌, ◌-◌, ◌<◌, refl, sym, ap, subst, ◌∙◌, length, replicate, Bool, true, false, if◌then◌else◌, None}
 use Rattle.std.specs.Prelude.{nat_lt}
 use Rattle.std.proofs.lemmas.Bool.{lt-ltb}
 use Rattle.std.proofs.lemmas.List.{length-replicate}
@@ -11,10 +11,9 @@ use Rattle.samoa_invariant.proofs.indexing.Clearing.{cleared_indexed, opening_in
 use Rattle.samoa_invariant.proofs.indexing.Placed.{placed-none}
 use Rattle.samoa_invariant.proofs.representation.Traces.{invariant, state-clear}
 use Rattle.samoa_control.specs.Admission.{most_admitted}
-use Rattle.samoa_control.specs.Since.{cleared_comps}
 use Rattle.samoa_control.specs.Sound.{IsSound}
 use Rattle.samoa_control.proofs.Since.{cleared-clear, cleared-opening}
-use Rattle.samoa_core.specs.Indexed.{IsIndexedBy, Keeps, Table}
+use Rattle.samoa_core.specs.Indexed.{IsIndexedBy, Keeps}
 use Rattle.samoa_core.specs.Rows.{IsSized, Rows, emptied, no_rows}
 use Rattle.samoa_core.proofs.Tables.{grid-of, table-none}
 

@@ -9,7 +9,7 @@ use Rattle.samoa_invariant.specs.Index.{Index, IsIndexed, IsTailOf, TellsEntry, 
 use Rattle.samoa_invariant.specs.Inv.{Invariant}
 use Rattle.samoa_invariant.specs.Play.{Agree, Play}
 use Rattle.samoa_invariant.specs.State as model
-use Rattle.samoa_invariant.specs.Runs.{IsRun, Trace, ext_at, play, state, with_ext, with_step}
+use Rattle.samoa_invariant.specs.Runs.{IsRun, Trace, ext_at, play, state, with_ext}
 use Rattle.samoa_invariant.proofs.indexing.Admitting.{admitted_indexed}
 use Rattle.samoa_invariant.proofs.indexing.Calm.{indexed-agree}
 use Rattle.samoa_invariant.proofs.representation.Traces.{invariant, is_run-with_ext, state-ext, state-step}
@@ -23,7 +23,7 @@ use Rattle.samoa_control.proofs.Grids.{grid-same, grid-set, grid-within}
 use Rattle.samoa_control.proofs.Since.{cleared-ext, cleared-step}
 use Rattle.samoa_control.specs.Known.{decl_number}
 use Rattle.samoa_core.specs.Indexed.{IsIndexedBy, IsKeptAt, Keeps, Table}
-use Rattle.samoa_core.specs.Joining.{CanJoin, HasAdmitted, HasRowFor, Joins, TailsWithin, WasKeptFor, joined, last_node, last_one, named_to}
+use Rattle.samoa_core.specs.Joining.{HasAdmitted, HasRowFor, Joins, TailsWithin, WasKeptFor, joined, last_node, last_one, named_to}
 use Rattle.samoa_core.specs.Passing.{HasLeft}
 use Rattle.samoa_core.specs.Rows.{IsBlank, Rows, linked}
 use Rattle.samoa_core.proofs.Tables.{table-append, table-blank, table-same, table-set}
@@ -137,7 +137,7 @@ keeps-named : (nodes columns first k : ℕ) (rows : Rows) (g : Index) (v m : ℕ
     → ((j : ℕ) → g.tail v m ≡ Some j → (first ≤ j) × (j < k)) → slice_get rows.heads (v * columns + m) ≡ Some head → slice_get rows.tails (v * columns + m) ≡ Some last
     → Keeps nodes columns first (suc k) rows (joined g k v (to nm m))
     → Keeps nodes columns first (suc k) (record (linked rows first last m k) { heads = set rows.heads (v * columns + m) (or_else head k); tails = set rows.tails (v * columns + m) (Some k) })
-      (joined g k v (to nm (m + 1)))
+    (joined g k v (to nm (m + 1)))
 keeps-named nodes columns first k rows g v m nm head last le lt below named within is_head is_last keeps = done last refl
   where
     new : Index
@@ -289,13 +289,19 @@ joins-unnamed t rows g comp m b sound is unnamed test joins =
 pub joins-named : (t : Trace) (rows : Rows) (g : Index) (comp m : ℕ) (head last : Option ℕ) → IsSound t → IsLast t comp → (play t).node (comp - 1) < t.script.nodes → m < length t.script.micros
     → 0 < weight ((play t).decl (comp - 1)) m → TailsWithin t g → slice_get rows.heads ((play t).node (comp - 1) * length t.script.micros + m) ≡ Some head
     → slice_get rows.tails ((play t).node (comp - 1) * length t.script.micros + m) ≡ Some last → Joins t rows g m
-    → Joins t (record (linked rows (cleared_comps t) last m (comp - 1)) { heads = set rows.heads ((play t).node (comp - 1) * length t.script.micros + m) (or_else head (comp - 1));
-        tails = set rows.tails ((play t).node (comp - 1) * length t.script.micros + m) (Some (comp - 1)) }) g (m + 1)
+    → Joins t (record (linked rows (cleared_comps t) last m (comp - 1)) {
+      heads = set rows.heads ((play t).node (comp - 1) * length t.script.micros + m) (or_else head (comp - 1));
+      tails = set rows.tails ((play t).node (comp - 1) * length t.script.micros + m) (Some (comp - 1));
+    }) g (m + 1)
 joins-named t rows g comp m head last sound is node below some within is_head is_last joins =
-    subst (λ (k : ℕ). Joins t (record (linked rows (cleared_comps t) last m k) { heads = set rows.heads ((play t).node k * length t.script.micros + m) (or_else head k);
-        tails = set rows.tails ((play t).node k * length t.script.micros + m) (Some k) }) g (m + 1)) (sym same)
-    (subst (λ (n : ℕ). Keeps t.script.nodes (length t.script.micros) (cleared_comps t) n (record (linked rows (cleared_comps t) last m k) { heads = set rows.heads (last_node t * length t.script.micros + m) (or_else head k);
-        tails = set rows.tails (last_node t * length t.script.micros + m) (Some k) }) (joined g k (last_node t) (named_to t (m + 1)))) more
+    subst (λ (k : ℕ). Joins t (record (linked rows (cleared_comps t) last m k) {
+      heads = set rows.heads ((play t).node k * length t.script.micros + m) (or_else head k);
+      tails = set rows.tails ((play t).node k * length t.script.micros + m) (Some k);
+    }) g (m + 1)) (sym same)
+    (subst (λ (n : ℕ). Keeps t.script.nodes (length t.script.micros) (cleared_comps t) n (record (linked rows (cleared_comps t) last m k) {
+      heads = set rows.heads (last_node t * length t.script.micros + m) (or_else head k);
+      tails = set rows.tails (last_node t * length t.script.micros + m) (Some k);
+    }) (joined g k (last_node t) (named_to t (m + 1)))) more
     (keeps-named t.script.nodes (length t.script.micros) (cleared_comps t) k rows g (last_node t) m (λ (p : ℕ). nat_lt 0 (weight ((play t).decl k) p)) head last (from-first t comp sound is)
     (subst (λ (n : ℕ). (play t).node n < t.script.nodes) same node) below (lt-ltb 0 (weight ((play t).decl k) m) (subst (λ (n : ℕ). 0 < weight ((play t).decl n) m) same some))
     (λ j e. within (last_node t) m j e)
@@ -316,7 +322,7 @@ joins-named t rows g comp m head last sound is node below some within is_head is
 pub joins-linked : (t : Trace) (rows new : Rows) (g : Index) (comp m slot first : ℕ) → IsSound t → IsLast t comp → (play t).node (comp - 1) < t.script.nodes → m < length t.script.micros
     → 0 < weight ((play t).decl (comp - 1)) m → slot ≡ (play t).node (comp - 1) * length t.script.micros + m → first ≡ cleared_comps t → TailsWithin t g → Joins t rows g m
     → ((head last : Option ℕ) → slice_get rows.heads slot ≡ Some head → slice_get rows.tails slot ≡ Some last
-      → new ≡ record (linked rows first last m (comp - 1)) { heads = set rows.heads slot (or_else head (comp - 1)); tails = set rows.tails slot (Some (comp - 1)) })
+    → new ≡ record (linked rows first last m (comp - 1)) { heads = set rows.heads slot (or_else head (comp - 1)); tails = set rows.tails slot (Some (comp - 1)) })
     → Joins t new g (m + 1)
 joins-linked t rows new g comp m slot first sound is node below some at from within joins by =
     subst (λ (x : Rows). Joins t x g (m + 1)) (sym made) (joins-named t rows g comp m head last sound is node below some within is_head is_last joins)

@@ -1,6 +1,6 @@
 -- The lists of an index of which one item is changed.
-use Rattle.std.proofs.Common.{arith, ◌≡◌, ℕ, ◌+◌, ◌-◌, ◌*◌, ◌<◌, ◌≤◌, sym, ap, subst, ◌∙◌, List, length, length-set, set, Bool, ◌==◌, if◌then◌else◌, Option}
-use Rattle.samoa_invariant.specs.Index.{Index, placed}
+use Rattle.std.proofs.Common.{◌≡◌, ℕ, ◌+◌, ◌-◌, ◌*◌, ◌<◌, ◌≤◌, sym, ap, subst, ◌∙◌, List, length, length-set, set, Bool, ◌==◌, if◌then◌else◌, Option}
+use Rattle.samoa_invariant.specs.Index.{Index}
 use Rattle.samoa_invariant.specs.Slots.{put_at}
 use Rattle.samoa_invariant.specs.State.{put}
 use Rattle.samoa_invariant.proofs.indexing.Placed.{placed-set}

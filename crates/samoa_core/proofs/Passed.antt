@@ -1,17 +1,17 @@
 -- What a step notes in the lists.
-use Rattle.std.proofs.Common.{arith, ◌≡◌, ◌↔◌, ℕ, ◌+◌, ◌-◌, ◌*◌, ◌<◌, ◌≤◌, refl, sym, ap, subst, ◌∙◌, length, set, Bool, true, false, Option, Some, None}
+use Rattle.std.proofs.Common.{arith, ◌≡◌, ◌↔◌, ℕ, ◌+◌, ◌-◌, ◌*◌, ◌<◌, ◌≤◌, sym, ap, subst, ◌∙◌, length, set, Bool, true, false, Option, Some, None}
 use Rattle.std.specs.Prelude.{slice_get}
 use Rattle.samoa_versions.specs.Ready.{is_member}
 use Rattle.samoa_model.specs.declared.record.Step.{Step}
 use Rattle.samoa_invariant.specs.Index.{Index, IsIndexed, MayEnter, TellsEntry, TellsNext, abandoned, passed_on}
 use Rattle.samoa_invariant.specs.Slots.{put_at}
 use Rattle.samoa_invariant.specs.State as model
-use Rattle.samoa_invariant.specs.Runs.{IsDue, IsRun, Trace, play, state, with_step}
+use Rattle.samoa_invariant.specs.Runs.{IsDue, Trace, play, state, with_step}
 use Rattle.samoa_control.specs.Admission.{most_admitted}
 use Rattle.samoa_control.specs.Since.{cleared_comps}
 use Rattle.samoa_control.specs.Sound.{IsSound}
 use Rattle.samoa_control.proofs.Grids.{grid-within}
-use Rattle.samoa_core.specs.Indexed.{IsKeptAt, Keeps}
+use Rattle.samoa_core.specs.Indexed.{IsKeptAt}
 use Rattle.samoa_core.specs.Passing.{CanPass, HasLeft, HasReleased, IsGreeted, MarksEntry, Passes}
 use Rattle.samoa_core.specs.Rows.{Rows}
 use Rattle.samoa_core.proofs.Kept.{keeps-closing, keeps-head, keeps-ready, keeps-restless}

@@ -1,12 +1,12 @@
 -- How far a pass of releases or of ends has come, and what it leaves.
-use Rattle.std.proofs.Common.{arith, ◌≡◌, ◌≢◌, ◌⊎◌, inl, inr, ◌↔◌, ℕ, suc, ◌+◌, ◌-◌, ◌<◌, ◌≤◌, refl, sym, ap, subst, ◌∙◌, List, length, length-set, set, Bool, true, false, if◌then◌else◌}
+use Rattle.std.proofs.Common.{arith, ◌≡◌, ◌≢◌, ◌⊎◌, inl, inr, ◌↔◌, ℕ, suc, ◌+◌, ◌-◌, ◌<◌, ◌≤◌, refl, sym, ap, subst, ◌∙◌, List, length, set, Bool, true, false, if◌then◌else◌}
 use Rattle.std.specs.Int.{bit_at}
 use Rattle.std.proofs.lemmas.Bool.{cases_eq, cases_lt, eq-eqb}
 use Rattle.std.proofs.lemmas.Grind.{get_or-set_at}
 use Rattle.std.proofs.lemmas.List.{get_or-set_other}
 use Rattle.samoa_versions.specs.Ready.{is_member}
 use Rattle.samoa_model.specs.declared.record.Step.{Step}
-use Rattle.samoa_invariant.specs.Index.{Index, IsIndexed, unclosing, unrestless}
+use Rattle.samoa_invariant.specs.Index.{unclosing, unrestless}
 use Rattle.samoa_invariant.specs.State as model
 use Rattle.samoa_invariant.specs.Runs.{IsDue, IsRun, Trace, play, state, with_step}
 use Rattle.samoa_invariant.specs.Settling.{EndsAll, EndsBefore, ReleasesAll, ReleasesBefore, ReleasesOf}
@@ -15,13 +15,12 @@ use Rattle.samoa_invariant.proofs.indexing.Leading.{ends_done, ends_on, least_en
 use Rattle.samoa_invariant.proofs.settling.Making.{due-open, ends_before-make, ends_before-none, ends_before-skip, releases_before-make, releases_before-none, releases_of-make, releases_of-none, releases_of-skip}
 use Rattle.samoa_invariant.proofs.settling.Releasing.{ends-leave, releases-leave}
 use Rattle.samoa_invariant.proofs.representation.Traces.{state-step}
-use Rattle.samoa_control.specs.Admission.{most_admitted}
 use Rattle.samoa_control.specs.Later.{IsLater, IsStill}
 use Rattle.samoa_control.specs.Since.{cleared_comps}
 use Rattle.samoa_control.specs.Sound.{IsSound, StillNeeds}
 use Rattle.samoa_control.proofs.Later.{later-made, still-unmoved}
 use Rattle.samoa_control.proofs.Passes.{due-within}
-use Rattle.samoa_core.specs.Indexed.{IsIndexedBy, IsKeptAt, Keeps}
+use Rattle.samoa_core.specs.Indexed.{IsIndexedBy}
 use Rattle.samoa_core.specs.Rows.{Rows}
 use Rattle.samoa_core.specs.Settling.{EndsPast, NoneBelow, ReleasesPast}
 use Rattle.samoa_core.proofs.Kept.{keeps-closing, keeps-restless}

@@ -1,5 +1,5 @@
 -- The index after a step.
-use Rattle.std.proofs.Common.{arith, ◌≡◌, ℕ, ◌+◌, ◌-◌, ◌*◌, ◌<◌, ◌≤◌, refl, sym, ap, subst, ◌∙◌, length, set, Bool, true, false, Option, Some, None}
+use Rattle.std.proofs.Common.{arith, ◌≡◌, ℕ, ◌-◌, ◌<◌, ◌≤◌, refl, sym, ap, subst, ◌∙◌, length, set, Bool, false, Option, Some, None}
 use Rattle.samoa_model.specs.declared.handler.Moment.{Moment}
 use Rattle.samoa_model.specs.declared.record.Step.{Step}
 use Rattle.samoa_serial.specs.declared.call.Call.{Call}
@@ -17,7 +17,6 @@ use Rattle.samoa_invariant.proofs.preservation.Slots.{turn_owns}
 use Rattle.samoa_invariant.proofs.representation.Traces.{count-few, invariant, state-step}
 use Rattle.samoa_control.specs.Since.{cleared_comps}
 use Rattle.samoa_control.specs.Admission.{most_admitted}
-use Rattle.samoa_control.proofs.Asked.{out-at}
 use Rattle.samoa_control.proofs.Since.{abandon_count, cleared-step, leave_count}
 use Rattle.samoa_core.specs.Indexed.{IsIndexedBy, IsKeptAt, Keeps}
 use Rattle.samoa_core.specs.Passing.{HasLeft, HasReleased, MarksEntry, Passes}

@@ -1,5 +1,5 @@
 -- A computation that was just admitted comes into the index.
-use Rattle.std.specs.Prelude.{◌≡◌, ◌-◌, ◌*◌, ◌<◌, ◌≤◌, ℕ, suc, length, Bool, ◌&&◌, ◌==◌, if◌then◌else◌, nat_lt, Option, Some, None}
+use Rattle.std.specs.Prelude.{◌≡◌, ◌-◌, ◌*◌, ◌<◌, ◌≤◌, ℕ, length, Bool, ◌&&◌, ◌==◌, if◌then◌else◌, nat_lt, Some, None}
 use Rattle.samoa_model.specs.Allowed.{weight}
 use Rattle.samoa_invariant.specs.Index.{Index, TellsEntry, admitted, is_tail, or_else}
 use Rattle.samoa_invariant.specs.Runs.{Trace, play, state}

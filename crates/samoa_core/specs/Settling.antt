@@ -1,5 +1,5 @@
 -- How far a pass of releases or of ends has come.
-use Rattle.std.specs.Prelude.{◌≡◌, ◌-◌, ◌<◌, ◌≤◌, ◌+◌, ℕ, List, length, Bool, false}
+use Rattle.std.specs.Prelude.{◌≡◌, ◌-◌, ◌<◌, ◌≤◌, ◌+◌, ℕ, List, Bool, false}
 use Rattle.samoa_versions.specs.Ready.{is_member}
 use Rattle.samoa_invariant.specs.Runs.{Trace}
 use Rattle.samoa_invariant.specs.Settling.{EndsBefore, ReleasesBefore}

@@ -17,11 +17,7 @@ use samoa_control::{Control, Ran, Turn};
 use samoa_micro::Micro;
 
 /// Begins the next handler step of a computation, which is due: it may not begin another one.
-pub(crate) fn enter<B: Micro>(
-    control: &mut Control<B>,
-    index: &mut Index,
-    comp: u32,
-) -> Turn<B>
+pub(crate) fn enter<B: Micro>(control: &mut Control<B>, index: &mut Index, comp: u32) -> Turn<B>
     requires indexed { IsIndexedBy control.old index.old }
     requires due { (micro : ℕ) × IsDue control.old (Step.Enter comp micro) }
     ensures comp { result.comp ≡ comp }
@@ -74,12 +70,7 @@ pub(crate) fn abandon<B: Micro>(control: &mut Control<B>, index: &mut Index, tur
 
 /// Makes a release, which is due: the queue there goes on. Of no computation up to this one it says anew whether a release
 /// may be due.
-pub(crate) fn release<B: Micro>(
-    control: &mut Control<B>,
-    index: &mut Index,
-    comp: u32,
-    micro: u32,
-)
+pub(crate) fn release<B: Micro>(control: &mut Control<B>, index: &mut Index, comp: u32, micro: u32)
     requires indexed { IsIndexedBy control.old index.old }
     requires due { IsDue control.old (Step.Release comp micro) }
     ensures step { control.new ≡ with_step control.old (Step.Release comp micro) }

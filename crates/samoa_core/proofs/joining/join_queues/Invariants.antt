@@ -1,4 +1,4 @@
-use Rattle.std.proofs.Common.{◌-◌, ◌≡◌, ◌≤◌, ◌+◌, length}
+use Rattle.std.proofs.Common.{◌-◌, ◌≤◌}
 use Rattle.samoa_invariant.specs.Index.{Index}
 use Rattle.samoa_core.specs.Joining.{Joins, TailsWithin}
 use Rattle.samoa_core.proofs.joining.join_queues.Given as goal

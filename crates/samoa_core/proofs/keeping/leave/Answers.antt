@@ -1,7 +1,7 @@
 use Rattle.std.proofs.Common.{ℕ, subst}
 use Rattle.samoa_model.specs.declared.record.Step.{Step}
 use Rattle.samoa_control.proofs.Facts.{back}
-use Rattle.samoa_core.specs.Passing.{HasLeft, Passes}
+use Rattle.samoa_core.specs.Passing.{HasLeft}
 use Rattle.samoa_core.proofs.Coming.{back-here, has-passed, here-after, holds-still, is-over, leave-can, leave-holds, leave-passes}
 use Rattle.samoa_core.proofs.keeping.leave.Goals as goal
 

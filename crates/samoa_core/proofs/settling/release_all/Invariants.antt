@@ -1,5 +1,4 @@
 use Rattle.std.proofs.Common.{◌-◌, ◌≡◌, ◌≤◌, length}
-use Rattle.samoa_control.specs.Later.{IsLater}
 use Rattle.samoa_core.specs.Indexed.{IsIndexedBy}
 use Rattle.samoa_core.specs.Settling.{ReleasesPast}
 use Rattle.samoa_core.proofs.settling.release_all.Given as goal

@@ -1,4 +1,4 @@
-use Rattle.std.proofs.Common.{arith, ◌≡◌, ◌∙◌, ap, sym, length}
+use Rattle.std.proofs.Common.{arith, ◌∙◌, ap, sym, length}
 use Rattle.samoa_control.specs.Later.{IsLater}
 use Rattle.samoa_control.proofs.Later.{later-made}
 use Rattle.samoa_core.proofs.settling.release_of.Goals as goal
