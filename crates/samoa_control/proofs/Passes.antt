@@ -1,6 +1,5 @@
 -- What holds of a computation of which a release is due, and what it is past.
-use Rattle.std.proofs.Common.{arith, ◌≡◌, ◌⊎◌, inl, inr, ◌↔◌, ℕ, suc, ◌+◌, ◌-◌, ◌<◌, ◌≤◌, refl, sym, ap, subst, ◌∙◌, List, [], ◌∷◌, map, length, Bool, true, false, not, Some}
-use Rattle.std.specs.Int.{bit_at}
+use Rattle.std.proofs.Common.{arith, ◌≡◌, ◌⊎◌, inl, inr, ◌↔◌, ℕ, ◌+◌, ◌-◌, ◌<◌, ◌≤◌, refl, sym, ap, ◌∙◌, List, [], ◌∷◌, map, length, Bool, true, false, not, Some}
 use Rattle.std.specs.Prelude.{slice_get}
 use Rattle.samoa_model.specs.declared.ids.NodeId.{NodeId}
 use Rattle.samoa_model.specs.Allowed.{weight}
@@ -13,25 +12,18 @@ use Rattle.samoa_serial.specs.declared.call.Active.{Active}
 use Rattle.samoa_serial.specs.Calls.{Computation}
 use Rattle.samoa_invariant.specs.Inv.{Invariant}
 use Rattle.samoa_invariant.specs.Play.{IsIdle}
-use Rattle.samoa_invariant.specs.State as model
-use Rattle.samoa_invariant.specs.Runs.{IsDue, IsRun, Trace, ext_at, play, state, with_step}
-use Rattle.samoa_invariant.specs.Settling.{EndsAll, EndsBefore, ReleasesAll, ReleasesBefore, ReleasesOf}
+use Rattle.samoa_invariant.specs.Runs.{IsDue, IsRun, Trace, ext_at, play, state}
 use Rattle.samoa_invariant.proofs.refinement.Ends.{idle_is_whole}
-use Rattle.samoa_invariant.proofs.settling.Making.{due-admitted, due-open, end-admitted, ends_before-all, ends_before-make, ends_before-none, ends_before-skip, releases_before-all, releases_before-make, releases_before-none, releases_of-make, releases_of-none, releases_of-skip}
-use Rattle.samoa_invariant.proofs.settling.Releasing.{ends-leave, releases-leave}
 use Rattle.samoa_invariant.proofs.preservation.Slots.{turn_declares}
-use Rattle.samoa_invariant.proofs.representation.Traces.{invariant, state-step}
+use Rattle.samoa_invariant.proofs.representation.Traces.{invariant}
 use Rattle.samoa_invariant.proofs.preservation.Versions.{version-own}
 use Rattle.samoa_control.specs.Forms.{waits_for_rest}
 use Rattle.samoa_control.specs.Known.{decl_number}
-use Rattle.samoa_control.specs.Later.{IsLater, IsStill}
 use Rattle.samoa_control.specs.Running.{IsRunning, turn_of}
 use Rattle.samoa_control.specs.declared.running.Interval.{Interval}
 use Rattle.samoa_control.specs.declared.running.Running.{Running}
-use Rattle.samoa_control.specs.Since.{cleared_comps}
-use Rattle.samoa_control.specs.Sound.{IsPast, IsSound, StillNeeds}
+use Rattle.samoa_control.specs.Sound.{IsPast, IsSound}
 use Rattle.samoa_control.proofs.Declares.{declares_known}
-use Rattle.samoa_control.proofs.Later.{later-made, still-unmoved}
 
 -- what is released is a microprotocol of the stack
 pub due-within : (t : Trace) (c p : ℕ) → IsSound t → IsDue t (Step.Release c p) → p < length t.script.micros
