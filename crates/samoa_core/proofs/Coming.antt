@@ -18,9 +18,6 @@ use Rattle.samoa_core.specs.Rows.{Rows}
 use Rattle.samoa_core.proofs.Passed.{IsHere, release-calm}
 use Rattle.samoa_core.proofs.Stepped.{abandoned-marks, abandoned-on, left-holds, left-on, left-passes, next-since, released-has, released-on}
 
-pub enter-here : (t : Trace) (comp p : ℕ) → IsSound t → IsDue t (Step.Enter comp p) → IsHere t comp
-enter-here t comp p sound due = let is = enter-since t comp p sound due in record { since = is.0; admitted = is.1 }
-
 pub release-here : (t : Trace) (comp p : ℕ) → IsSound t → IsDue t (Step.Release comp p) → IsHere t comp
 release-here t comp p sound due = let is = release-since t comp p sound due in record { since = is.0; admitted = is.1 }
 

@@ -73,16 +73,6 @@ is-greeted t rows g number sound here has =
     same : number + 1 - 1 ≡ number
     same = omega arith
 
--- who comes next stands in the row of a computation
-pub next-row : (t : Trace) (rows : Rows) (g : Index) (comp micro : ℕ) → IsSound t → IsHere t comp → micro < length t.script.micros → IsKeptAt t rows g
-    → (comp - 1 - cleared_comps t) * rows.micros + micro < length rows.nexts
-next-row t rows g comp micro sound here within keeps =
-    let from = from-here t comp here in
-    let lt = count-here t comp sound here in
-    subst (λ (n : ℕ). (comp - 1 - cleared_comps t) * n + micro < length rows.nexts) (sym keeps.micros)
-    (table-within ((state t).count - cleared_comps t) (length t.script.micros) rows.nexts (λ (i p : ℕ). g.next (cleared_comps t + i) p) (comp - 1 - cleared_comps t) micro keeps.nexts
-    (omega (arith, from, lt)) within)
-
 pub next-read : (t : Trace) (rows : Rows) (g : Index) (comp micro : ℕ) (x : Option ℕ) → IsSound t → IsHere t comp → micro < length t.script.micros → IsKeptAt t rows g
     → slice_get rows.nexts ((comp - 1 - cleared_comps t) * rows.micros + micro) ≡ Some x → g.next (comp - 1) micro ≡ x
 next-read t rows g comp micro x sound here within keeps e =
@@ -103,14 +93,6 @@ pub next-of : (t : Trace) (rows : Rows) (g : Index) (comp micro at first : ℕ) 
 next-of t rows g comp micro at first x sound can e same keeps read =
     next-read t rows g comp micro x sound (record { since = can.since; admitted = can.admitted }) can.within keeps
     (subst (λ (n : ℕ). slice_get rows.nexts (n * rows.micros + micro) ≡ Some x) (e ∙ ap (λ (n : ℕ). comp - 1 - n) same) read)
-
--- the head of a slot stands in its place
-pub head-place : (t : Trace) (rows : Rows) (g : Index) (node micro : ℕ) → node < t.script.nodes → micro < length t.script.micros → IsKeptAt t rows g
-    → node * length t.script.micros + micro < length rows.heads
-head-place t rows g node micro lt within keeps =
-    let size : length rows.heads ≡ t.script.nodes * length t.script.micros = keeps.heads.size in
-    let place : node * length t.script.micros + micro < t.script.nodes * length t.script.micros = grid-within t.script.nodes (length t.script.micros) node micro lt within in
-    omega (arith, size, place)
 
 passes-by : (t : Trace) (rows : Rows) (g : Index) (comp micro : ℕ) (x : Option ℕ) (enters : Bool) → g.next (comp - 1) micro ≡ x → TellsNext (play t) (state t) x enters
     → IsKeptAt t rows (passed_on g ((play t).node (comp - 1)) micro x enters) → Passes t rows g comp micro

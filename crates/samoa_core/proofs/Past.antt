@@ -38,14 +38,6 @@ pub released : (before now u : Trace) (c m : ℕ) → IsRun before → ReleasesO
 released before now u c m run r due e =
     subst (λ (x : Trace). ReleasesOf before x c (m + 1)) (sym e) (subst (λ (n : ℕ). ReleasesOf before (with_step now (Step.Release c m)) c n) (suc_is m) (releases_of-make before now c m run r due))
 
-pub not-released : (before now : Trace) (c m : ℕ) → ReleasesOf before now c m → (IsDue now (Step.Release c m) → ⊥) → ReleasesOf before now c (m + 1)
-not-released before now c m r none =
-    releases_of-skip before now c m (m + 1) r (omega arith)
-    (λ p from below due. let here : p ≡ m = omega (arith, from, below) in none (subst (λ (q : ℕ). IsDue now (Step.Release c q)) here due))
-
-pub none-released : (t : Trace) (c n : ℕ) → ((p : ℕ) → IsDue t (Step.Release c p) → ⊥) → ReleasesOf t t c n
-none-released t c n none = releases_of-skip t t c 0 n (releases_of-none t c) (omega arith) (λ p from below. none p)
-
 -- a release changes nothing of what a computation needs
 pub needs-on : (t u : Trace) (c m needed : ℕ) → IsRun t → u ≡ with_step t (Step.Release c m) → StillNeeds t c needed → StillNeeds u c needed
 needs-on t u c m needed run e needs = subst (λ (x : Trace). StillNeeds x c needed) (sym e) (record {
@@ -124,10 +116,6 @@ releases-come before now rows past at sound is member none = subst (λ (n : ℕ)
     same : first + at ≡ first + at + 1 - 1
     same = omega arith
 
-pub releases-whole : (before now : Trace) (rows : Rows) (past : ℕ) → IsSound now → ReleasesPast before now rows past → ((i : ℕ) → is_member rows.restless i ≡ false) → ReleasesAll before now
-releases-whole before now rows past sound is none =
-    releases_done before now (cleared_comps now) is.indexed.index (past + 1) sound.run is.indexed.is is.made (λ j from. sym (is.indexed.keeps.restless j from) ∙ none (j - cleared_comps now))
-
 pub ends-least : (before now : Trace) (rows : Rows) (past at : ℕ) → IsSound now → EndsPast before now rows past → is_member rows.closing at ≡ true → past < cleared_comps now + at + 1
 ends-least before now rows past at sound is member =
     let le = member-past rows.closing (past - cleared_comps now) at is.below member in
@@ -153,10 +141,6 @@ ends-come before now rows past at sound is member none = subst (λ (n : ℕ). En
 
     same : first + at ≡ first + at + 1 - 1
     same = omega arith
-
-pub ends-whole : (before now : Trace) (rows : Rows) (past : ℕ) → EndsPast before now rows past → ((i : ℕ) → is_member rows.closing i ≡ false) → EndsAll before now
-ends-whole before now rows past is none =
-    ends_done before now (cleared_comps now) is.indexed.index (past + 1) is.indexed.is is.made (λ j from. sym (is.indexed.keeps.closing j from) ∙ none (j - cleared_comps now))
 
 -- a mark is taken from whom no release, or end, is due of
 pub calmed : (u : Trace) (rows : Rows) (comp : ℕ) → IsSound u → IsHere u comp → IsIndexedBy u rows → ((p : ℕ) → IsDue u (Step.Release comp p) → ⊥)
@@ -225,11 +209,6 @@ ends-next before t u rows comp sound here first is made by =
 pub ended : (before now u : Trace) (c : ℕ) → IsRun before → EndsBefore before now c → IsDue now (Step.End c) → u ≡ with_step now (Step.End c) → EndsBefore before u (c + 1)
 ended before now u c run r due e =
     subst (λ (x : Trace). EndsBefore before x (c + 1)) (sym e) (subst (λ (n : ℕ). EndsBefore before (with_step now (Step.End c)) n) (suc_is c) (ends_before-make before now c run r due))
-
-pub not-ended : (before now : Trace) (c : ℕ) → EndsBefore before now c → (IsDue now (Step.End c) → ⊥) → EndsBefore before now (c + 1)
-not-ended before now c r none =
-    ends_before-skip before now c (c + 1) r (omega arith)
-    (λ j from below due. let here : j ≡ c = omega (arith, from, below) in none (subst (λ (k : ℕ). IsDue now (Step.End k)) here due))
 
 pub ends-until : (before now : Trace) (rows : Rows) (comp : ℕ) → 0 < comp → EndsPast before now rows (comp - 1) → EndsBefore before now comp
 ends-until before now rows comp some is = subst (λ (n : ℕ). EndsBefore before now n) (before-here comp some) is.made
@@ -323,6 +302,3 @@ pick-least t rows at sound by runs member below earlier micro lt due =
 pub pick-none : (t : Trace) (rows : Rows) → IsSound t → IsIndexedBy t rows → ((i : ℕ) → is_member rows.ready i ≡ false) → (comp micro : ℕ) → IsDue t (Step.Enter comp micro) → ⊥
 pick-none t rows sound by none comp micro due =
     none_enters t (cleared_comps t) by.index sound.run by.is (λ k from. sym (by.keeps.ready k from) ∙ none (k - cleared_comps t)) comp micro due
-
-pub pick-stopped : (t : Trace) → (state t).stopped ≡ true → (comp micro : ℕ) → IsDue t (Step.Enter comp micro) → ⊥
-pick-stopped t stopped comp micro due = stopped_enters t stopped comp micro due
