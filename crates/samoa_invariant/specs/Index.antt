@@ -102,15 +102,6 @@ pub record IsIndexed (P : Play) (first : ℕ) (core : Core) (index : Index) : Ty
   pub closing : (k : ℕ) → CanEnd P core k → index.closing k ≡ true
   pub unadmitted : (k : ℕ) → core.count ≤ k → IsUnmarked index k
 
--- two indexes tell the same of the computations from the first one on
-pub record TellsAs (P : Play) (first count : ℕ) (index other : Index) : Type 0 where
-  pub head : (v p : ℕ) → other.head v p ≡ index.head v p
-  pub tail : (v p : ℕ) → other.tail v p ≡ index.tail v p
-  pub next : (k p : ℕ) → first ≤ k → k < count → 0 < weight (P.decl k) p → other.next k p ≡ index.next k p
-  pub ready : (k : ℕ) → first ≤ k → other.ready k ≡ index.ready k
-  pub restless : (k : ℕ) → first ≤ k → other.restless k ≡ index.restless k
-  pub closing : (k : ℕ) → first ≤ k → other.closing k ≡ index.closing k
-
 -- the index of a core in which all were cleared away
 abbrev pub none_indexed : Index
 none_indexed = record {

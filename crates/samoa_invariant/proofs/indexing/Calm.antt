@@ -1,30 +1,14 @@
 -- What the sets leave out: whose releases and whose end aren't due. And later events change no index.
-use Rattle.std.proofs.Common.{arith, ◌≡◌, ◌-◌, ℕ, ◌≤◌, ◌<◌, refl, sym, ◌∙◌, subst, Bool, true, false, Option, Some, None}
+use Rattle.std.proofs.Common.{arith, ◌≡◌, ℕ, ◌≤◌, ◌<◌, refl, sym, ◌∙◌, subst, Bool, true, Option, Some, None}
 use Rattle.samoa_model.specs.Allowed.{weight}
-use Rattle.samoa_model.specs.declared.record.Step.{Step}
 use Rattle.samoa_model.specs.declared.script.Decl.{Decl}
 use Rattle.samoa_invariant.specs.Play.{Agree, Play}
-use Rattle.samoa_invariant.specs.State.{CanEnd, CanRelease, Core, put}
+use Rattle.samoa_invariant.specs.State.{CanRelease, Core, put}
 use Rattle.samoa_invariant.specs.Inv.{Invariant}
 use Rattle.samoa_invariant.specs.Index.{Declares, Index, IsHeadOf, IsIndexed, IsNextOf, IsTailOf, MayEnter, TellsEntry, passed_on, released, running}
-use Rattle.samoa_invariant.specs.Runs.{IsDue, Trace, play, state}
 use Rattle.samoa_invariant.proofs.preservation.Slots.{put-else, turn_owns}
 use Rattle.samoa_invariant.proofs.representation.Extended.{end-same, enter-same, release-same}
 use Rattle.samoa_invariant.proofs.indexing.Stepping.{next_of}
-
--- what a release or the end of isn't due of
-pub calm_releases : (P : Play) (first : ℕ) (core : Core) (index : Index) (k p : ℕ) → IsIndexed P first core index → index.restless k ≡ false → CanRelease P core k p → ⊥
-calm_releases P first core index k p is calm can = let never : true ≡ false = sym (is.restless k p can) ∙ calm in cc
-
-pub calm_ends : (P : Play) (first : ℕ) (core : Core) (index : Index) (k : ℕ) → IsIndexed P first core index → index.closing k ≡ false → CanEnd P core k → ⊥
-calm_ends P first core index k is calm can = let never : true ≡ false = sym (is.closing k can) ∙ calm in cc
-
--- the same of the steps of a journal
-pub calm_release-due : (t : Trace) (first : ℕ) (index : Index) (comp p : ℕ) → IsIndexed (play t) first (state t) index → index.restless (comp - 1) ≡ false → IsDue t (Step.Release comp p) → ⊥
-calm_release-due t first index comp p is calm due = calm_releases (play t) first (state t) index (comp - 1) p is calm due.enabled
-
-pub calm_end-due : (t : Trace) (first : ℕ) (index : Index) (comp : ℕ) → IsIndexed (play t) first (state t) index → index.closing (comp - 1) ≡ false → IsDue t (Step.End comp) → ⊥
-calm_end-due t first index comp is calm due = calm_ends (play t) first (state t) index (comp - 1) is calm due.enabled
 
 -- a release makes none restless but a later computation
 pub released_restless : (P : Play) (first : ℕ) (core : Core) (k p : ℕ) (index : Index) (enters : Bool) (j : ℕ) → Invariant P core → CanRelease P core k p → IsIndexed P first core index

@@ -5,7 +5,7 @@ use Rattle.samoa_serial.specs.declared.call.Call.{Call}
 use Rattle.samoa_invariant.specs.Play.{Play}
 use Rattle.samoa_invariant.specs.State.{AllEnded, CanEnter, Core, HasTurn, IsNextAt, Step, empty, made_by}
 use Rattle.samoa_invariant.specs.Inv.{Invariant, IsDone, IsOutRightly, Owns}
-use Rattle.samoa_invariant.specs.Index.{Index, IsFree, IsHeadOf, IsIndexed, IsNextOf, IsTailOf, IsUnmarked, MayEnter, TellsAs, none_indexed, running}
+use Rattle.samoa_invariant.specs.Index.{Index, IsFree, IsHeadOf, IsIndexed, MayEnter, none_indexed, running}
 use Rattle.samoa_invariant.proofs.preservation.Slots.{turn_owns}
 use Rattle.samoa_invariant.proofs.preservation.Steps.{some_injective}
 use Rattle.samoa_invariant.proofs.preservation.Versions.{in_order, owns_single}
@@ -13,7 +13,6 @@ use Rattle.samoa_invariant.proofs.refinement.Ends.{empty_keeps}
 use Rattle.samoa_invariant.proofs.refinement.Points.{some_or_none}
 use Rattle.samoa_invariant.proofs.indexing.Carried.{running_turn}
 use Rattle.samoa_invariant.proofs.indexing.Queues.{head_is, head_turns, owner_declares, turn_heads}
-use Rattle.samoa_invariant.proofs.indexing.Stepping.{owner_from}
 
 -- what has ended has no turn
 ended_owns_none : (P : Play) (core : Core) (k p : ℕ) → Invariant P core → k < core.count → core.ended k ≡ true → Owns P (core.local (P.node k) p) k (P.node k) p → ⊥
@@ -79,24 +78,6 @@ open_from P first core index k is open_yet = go (in_order k first)
     go (inl less) = let never : true ≡ false = sym (is.cleared k less) ∙ open_yet in absurd cc
     go (inr (inl e)) = omega arith
     go (inr (inr more)) = omega arith
-
--- what tells the same is an index of the same core
-pub tells_indexed : (P : Play) (first : ℕ) (core : Core) (index other : Index) → Invariant P core → IsIndexed P first core index → TellsAs P first core.count index other
-    → IsIndexed P first core other
-tells_indexed P first core index other inv is same = record {
-  begun = is.begun;
-  cleared = is.cleared;
-  heads = λ v p. subst (λ (x : Option ℕ). IsHeadOf P core v p x) (sym (same.head v p)) (is.heads v p);
-  tails = λ v p. subst (λ (x : Option ℕ). IsTailOf P first core.count v p x) (sym (same.tail v p)) (is.tails v p);
-  nexts = λ k p from lt some. subst (λ (x : Option ℕ). IsNextOf P core.count k p x) (sym (same.next k p from lt some)) (is.nexts k p from lt some);
-  ready = λ k from lt. subst (λ (b : Bool). b ≡ true ↔ MayEnter P core k) (sym (same.ready k from)) (is.ready k from lt);
-  restless = λ k p can. same.restless k (owner_from P first core k p index inv is can.turn.admitted (turn_owns P core k p inv can.turn)) ∙ is.restless k p can;
-  closing = λ k can. same.closing k (open_from P first core index k is can.not_ended) ∙ is.closing k can;
-  unadmitted = λ k le.
-      let from : first ≤ k = omega (arith, is.begun, le) in
-      let old : IsUnmarked index k = is.unadmitted k le in
-      record { ready = same.ready k from ∙ old.ready; restless = same.restless k from ∙ old.restless; closing = same.closing k from ∙ old.closing };
-}
 
 -- the turn is told by one look at the head
 pub head_tells : (P : Play) (first : ℕ) (core : Core) (index : Index) (k p : ℕ) → Invariant P core → IsIndexed P first core index

@@ -1,5 +1,5 @@
 -- Sets that are kept by place from the first computation on.
-use Rattle.std.proofs.Common.{arith, ◌≡◌, ◌≢◌, ◌+◌, ◌-◌, ℕ, ◌≤◌, ◌<◌, ◌⊎◌, inl, inr, sym, ap, ◌∙◌, List, length, set, replicate, Bool, false}
+use Rattle.std.proofs.Common.{arith, ◌≡◌, ◌≢◌, ◌-◌, ℕ, ◌≤◌, ◌<◌, ◌⊎◌, inl, inr, sym, ap, ◌∙◌, List, length, set, replicate, Bool, false}
 use Rattle.std.proofs.lemmas.Bool.{cases_eq}
 use Rattle.std.proofs.lemmas.Grind.{get_or-set_at}
 use Rattle.std.proofs.lemmas.List.{get_or-replicate, get_or-set_other, get_or_past, length-replicate}
@@ -29,7 +29,3 @@ before_or_past i n = grind arith
 
 pub placed-none : (first size k : ℕ) → placed first (replicate size false) k ≡ false
 placed-none first size k = none-member size (k - first) (before_or_past (k - first) size)
-
--- below the least member there is none
-pub placed-below : (first : ℕ) (members : List Bool) (at : ℕ) → ((i : ℕ) → i < at → is_member members i ≡ false) → (k : ℕ) → first ≤ k → k < first + at → placed first members k ≡ false
-placed-below first members at below k from less = below (k - first) (omega arith)
