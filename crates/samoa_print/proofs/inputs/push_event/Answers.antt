@@ -1,0 +1,9 @@
+use Rattle.std.proofs.Common.{string_bytes}
+use Rattle.std.proofs.lemmas.Result.{on_ok_weaker}
+use Rattle.samoa_print.proofs.Sound.{event_adds}
+use Rattle.samoa_print.proofs.inputs.push_event.Goals as goal
+
+pub returns : goal.returns
+returns c =
+    on_ok_weaker c.push-2.result (λ e. event_adds c.args.begin.now (string_bytes c.args.out.now) _ _ _ _ _ _ _ _ _ _ c.in_ok-push.ensures c.in_ok-push_numbers.ensures
+    c.in_ok-push_string.ensures c.in_ok-push_number.ensures c.in_ok-push_number-2.ensures e) c.push-2.ensures
