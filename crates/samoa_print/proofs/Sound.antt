@@ -1,5 +1,5 @@
 -- The trees whose texts are read as them, and the texts of their parts.
-use Rattle.std.proofs.Common.{◌≡◌, ℕ, zero, suc, ◌+◌, ◌^◌, ◌<◌, ◌≤◌, List, [], ◌∷◌, ◌++◌, length, get_or, slice_index, drop, map, Bool, true, false, ◌&&◌, nat_le, nat_lt, Option, Some, option_map, decimal, max, refl, sym, ap, ap₂, ◌∙◌, subst, arith, append_assoc, append-nil, IsUtf8, codes}
+use Rattle.std.proofs.Common.{◌≡◌, ℕ, suc, ◌+◌, ◌^◌, ◌<◌, ◌≤◌, List, [], ◌∷◌, ◌++◌, length, get_or, slice_index, drop, map, Bool, true, false, ◌&&◌, nat_le, nat_lt, Option, Some, option_map, max, refl, sym, ap, ap₂, ◌∙◌, subst, arith, append_assoc, append-nil, IsUtf8, codes}
 use Rattle.std.specs.Prelude.{option_and_then, ⊤}
 use Rattle.std.specs.List.{list_all}
 use Rattle.std.proofs.lemmas.Bool.{and_parts}
@@ -8,7 +8,7 @@ use Rattle.std.proofs.lemmas.List.{drop_more, at_drop_all}
 use Rattle.json.specs.Token.{Token}
 use Rattle.json.specs.Lex.{tokens}
 use Rattle.json.specs.Json as json
-use Rattle.json.specs.Print.{escape, escape_byte, print, ArePrintableOrBad}
+use Rattle.json.specs.Print.{escape, escape_byte, ArePrintableOrBad}
 use Rattle.json.specs.Tree as tree
 use Rattle.json.proofs.Numbered.{ArePrintableOrBad-tokens, value-HasNumbers}
 use Rattle.json.proofs.Printed.Decimals.{IsNumber-decimal}
@@ -21,7 +21,7 @@ use Rattle.serde_json.specs.View.{items_of}
 use Rattle.serde_json.specs.Written.{outline, items_outline, members_outline, has_float, compact_text, items_text, comma_if, IsInOrder}
 use Rattle.serde_json.proofs.Numbers.{number_of-decimal}
 use Rattle.serde_json.proofs.Texts.{tokens_from_order, print-outline}
-use Rattle.samoa_model.specs.NameRule.{is_name_byte, is_letter, is_script_name, IsScriptName}
+use Rattle.samoa_model.specs.NameRule.{is_name_byte, is_letter, IsScriptName}
 use Rattle.samoa_model.specs.declared.ids.EventId.{EventId}
 use Rattle.samoa_model.specs.declared.ids.ChangeId.{ChangeId}
 use Rattle.samoa_model.specs.declared.record.Cause.TheVariants.{Event, Change}
@@ -184,8 +184,7 @@ module _ (script : Script) (item : DoDef) (begin old s0 s1 s2 s3 s4 new args nam
   unfolding escape_byte
   event_adds event name_is second =
       subst (λ ms. AddsAfter begin (object ms) old new)
-      (λ i. member (codes "args") (list_tree number_tree (args_are i)) (member (codes "event") (string (name_is i)) (member (codes "node") (number_tree (node_is i)) (member (codes "tick") (number_tree (tick_is i)) no_members))))
-      (
+      (λ i. member (codes "args") (list_tree number_tree (args_are i)) (member (codes "event") (string (name_is i)) (member (codes "node") (number_tree (node_is i)) (member (codes "tick") (number_tree (tick_is i)) no_members)))) (
         after old s0 new begin _ begun (after s0 s1 new _ _ first.0 (after s1 s2 new _ _ second.0 (after s2 s3 new _ _ third.0 (after s3 s4 new _ _ last.0 end)))),
         event_sound (list_tree number_tree args) (string name) (number_tree node) (number_tree tick) first.1 second.1 third.1 last.1,
       )
@@ -194,8 +193,7 @@ module _ (script : Script) (item : DoDef) (begin old s0 s1 s2 s3 s4 new args nam
   unfolding escape_byte
   change_adds change name_is second =
       subst (λ ms. AddsAfter begin (object ms) old new)
-      (λ i. member (codes "args") (list_tree number_tree (args_are i)) (member (codes "change") (string (name_is i)) (member (codes "node") (number_tree (node_is i)) (member (codes "tick") (number_tree (tick_is i)) no_members))))
-      (
+      (λ i. member (codes "args") (list_tree number_tree (args_are i)) (member (codes "change") (string (name_is i)) (member (codes "node") (number_tree (node_is i)) (member (codes "tick") (number_tree (tick_is i)) no_members)))) (
         after old s0 new begin _ begun (after s0 s1 new _ _ first.0 (after s1 s2 new _ _ second.0 (after s2 s3 new _ _ third.0 (after s3 s4 new _ _ last.0 end)))),
         change_sound (list_tree number_tree args) (string name) (number_tree node) (number_tree tick) first.1 second.1 third.1 last.1,
       )
@@ -235,5 +233,5 @@ unfolding tree_of
 script_adds script changes crashes decls events losses micros nodes ticks e0 e1 e2 e4 e5 e6 e7 e8 old t0 t1 t2 t3 t4 t5 t6 t7 t8 t9 new a0 a1 a2 a3 a4 a5 a6 a7 a8 a9 end =
     subst (λ ms. Adds (object ms) old new)
     (λ i. whole_members (list_tree (change_tree script) (e0 i)) (list_tree crash_tree (e1 i)) (list_tree (decl_tree script) (e2 i)) (list_tree (do_tree script) script.does)
-        (list_tree (event_tree script) (e4 i)) (list_tree loss_tree (e5 i)) (list_tree (micro_tree script) (e6 i)) (number_tree (e7 i)) (number_tree (e8 i)) (number_tree 1))
+    (list_tree (event_tree script) (e4 i)) (list_tree loss_tree (e5 i)) (list_tree (micro_tree script) (e6 i)) (number_tree (e7 i)) (number_tree (e8 i)) (number_tree 1))
     (whole_adds old t0 t1 t2 t3 t4 t5 t6 t7 t8 t9 new _ _ _ _ _ _ _ _ _ _ a0 a1 a2 a3 a4 a5 a6 a7 a8 a9 end)

@@ -46,12 +46,7 @@ pub fn push_number(begin: &str, number: u64, out: &mut String) -> Result<(), NoM
 }
 
 /// Appends a text in quotes. A name needs no escape.
-pub fn push_string(
-    alloc: Global,
-    begin: &str,
-    text: &str,
-    out: &mut String,
-) -> Result<(), NoMemory>
+pub fn push_string(alloc: Global, begin: &str, text: &str, out: &mut String) -> Result<(), NoMemory>
     ensures { OnOk result (AddsAfter begin.now (string text.now) (string_bytes out.old) (string_bytes out.new)) }
 {
     if is_name(text) {

@@ -33,7 +33,13 @@ fn push_list<T: Printed>(
 fn push_script(alloc: Global, script: &Script, out: &mut String) -> Result<(), NoMemory>
     ensures { OnOk result (Adds (tree_of script.now) (string_bytes out.old) (string_bytes out.new)) }
 {
-    push_list(alloc, script, "{\"changes\":", script.changes.as_slice(), out)?;
+    push_list(
+        alloc,
+        script,
+        "{\"changes\":",
+        script.changes.as_slice(),
+        out,
+    )?;
     push_list(alloc, script, ",\"crash\":", script.crashes.as_slice(), out)?;
     push_list(alloc, script, ",\"decls\":", script.decls.as_slice(), out)?;
     push_does(alloc, script, ",\"do\":", out)?;

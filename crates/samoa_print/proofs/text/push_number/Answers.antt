@@ -1,4 +1,4 @@
-use Rattle.std.proofs.Common.{◌≡◌, ◌++◌, string_bytes, decimal, ap, ◌∙◌, arith, rules}
+use Rattle.std.proofs.Common.{◌++◌, string_bytes, ap, ◌∙◌, arith}
 use Rattle.std.proofs.lemmas.Result.{on_ok_weaker}
 use Rattle.samoa_print.proofs.Sound.{after, sound_number}
 use Rattle.samoa_print.proofs.text.push_number.Goals as goal

@@ -20,7 +20,7 @@ pub returns : goal.returns
 returns c =
     on_ok_weaker c.push.result
     (λ e. script_adds c.args.script.now _ _ _ _ _ _ _ _ c.as_slice.ensures c.as_slice-2.ensures c.as_slice-3.ensures c.as_slice-4.ensures c.as_slice-5.ensures
-        c.as_slice-6.ensures c.from.ensures c.from-2.ensures (string_bytes c.args.out.now) _ _ _ _ _ _ _ _ _ _ _ c.in_ok-push_list.ensures c.in_ok-push_list-2.ensures c.in_ok-push_list-3.ensures
-        c.in_ok-push_does.ensures c.in_ok-push_list-4.ensures c.in_ok-push_list-5.ensures c.in_ok-push_list-6.ensures c.in_ok-push_number.ensures c.in_ok-push_number-2.ensures
-        c.in_ok-push_number-3.ensures e)
+    c.as_slice-6.ensures c.from.ensures c.from-2.ensures (string_bytes c.args.out.now) _ _ _ _ _ _ _ _ _ _ _ c.in_ok-push_list.ensures c.in_ok-push_list-2.ensures c.in_ok-push_list-3.ensures
+    c.in_ok-push_does.ensures c.in_ok-push_list-4.ensures c.in_ok-push_list-5.ensures c.in_ok-push_list-6.ensures c.in_ok-push_number.ensures c.in_ok-push_number-2.ensures
+    c.in_ok-push_number-3.ensures e)
     c.push.ensures
