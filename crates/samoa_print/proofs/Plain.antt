@@ -183,28 +183,7 @@ crash_plain : (c : CrashDef) → IsPlain 5 (crash_tree c)
 unfolding crash_tree
 crash_plain c = record { plain = refl; flat = omega arith }
 
-tree_plain : (script : Script) → IsPlain 7 (tree_of script)
-unfolding tree_of
-tree_plain script =
-    object_plain 6 _
-    (member_plain 6 _ _ _ (list_plain 5 (change_tree script) script.changes (change_plain script))
-    (member_plain 6 _ _ _ (list_plain 5 crash_tree script.crashes crash_plain)
-    (member_plain 6 _ _ _ (list_plain 5 (decl_tree script) script.decls (decl_plain script))
-    (member_plain 6 _ _ _ (list_plain 5 (do_tree script) script.does (do_plain script))
-    (member_plain 6 _ _ _ (list_plain 5 (event_tree script) script.events (event_plain script))
-    (member_plain 6 _ _ _ (list_plain 5 loss_tree script.losses loss_plain)
-    (member_plain 6 _ _ _ (list_plain 5 (micro_tree script) script.micros (micro_plain script))
-    (member_plain 6 _ _ _ (number_plain 6 _)
-    (member_plain 6 _ _ _ (number_plain 6 _)
-    (member_plain 6 _ _ _ (number_plain 6 _) (none_plain 6)))))))))))
-
-pub is_flat : (script : Script) → depth (tree_of script) ≤ max_depth
-is_flat script = let flat = (tree_plain script).flat in omega arith
-
 -- ---- the lists of the whole
-
-flat_within : (d : Data) → IsPlain 6 d → depth d ≤ max_depth
-flat_within d p = let flat = p.flat in omega arith
 
 changes_plain : (script : Script) → IsPlain 6 (list_tree (change_tree script) script.changes)
 changes_plain script = list_plain 5 (change_tree script) script.changes (change_plain script)
@@ -223,6 +202,29 @@ losses_plain ls = list_plain 5 loss_tree ls loss_plain
 
 crashes_plain : (cs : List CrashDef) → IsPlain 6 (list_tree crash_tree cs)
 crashes_plain cs = list_plain 5 crash_tree cs crash_plain
+
+tree_plain : (script : Script) → IsPlain 7 (tree_of script)
+unfolding tree_of
+tree_plain script =
+    object_plain 6 _
+    (member_plain 6 _ _ _ (changes_plain script)
+    (member_plain 6 _ _ _ (crashes_plain script.crashes)
+    (member_plain 6 _ _ _ (decls_plain script)
+    (member_plain 6 _ _ _ (list_plain 5 (do_tree script) script.does (do_plain script))
+    (member_plain 6 _ _ _ (events_plain script)
+    (member_plain 6 _ _ _ (losses_plain script.losses)
+    (member_plain 6 _ _ _ (micros_plain script)
+    (member_plain 6 _ _ _ (number_plain 6 _)
+    (member_plain 6 _ _ _ (number_plain 6 _)
+    (member_plain 6 _ _ _ (number_plain 6 _) (none_plain 6)))))))))))
+
+pub is_flat : (script : Script) → depth (tree_of script) ≤ max_depth
+is_flat script = let flat = (tree_plain script).flat in omega arith
+
+-- ---- what a text of each list asks for
+
+flat_within : (d : Data) → IsPlain 6 d → depth d ≤ max_depth
+flat_within d p = let flat = p.flat in omega arith
 
 pub changes_no_float : (script : Script) → has_float (list_tree (change_tree script) script.changes) ≡ false
 changes_no_float script = (changes_plain script).plain
@@ -260,4 +262,4 @@ crashes_no_float cs = (crashes_plain cs).plain
 pub crashes_flat : (cs : List CrashDef) → depth (list_tree crash_tree cs) ≤ max_depth
 crashes_flat cs = flat_within _ (crashes_plain cs)
 
-pub ruleset parts_plain = (changes_no_float, changes_flat, decls_no_float, decls_flat, events_no_float, events_flat, micros_no_float, micros_flat, losses_no_float, losses_flat, crashes_no_float, crashes_flat)
+pub ruleset parts_plain = (changes_no_float, changes_flat, decls_no_float, decls_flat, events_no_float, events_flat, micros_no_float, micros_flat)
