@@ -1,5 +1,5 @@
 //! The values at the keys of an object.
-ghost use Rattle.std.specs.Prelude.{◌≡◌, ◌≤◌, ◌<◌, length, map};
+ghost use Rattle.std.specs.Prelude.{◌≡◌, ◌≤◌, ◌<◌, [], length, map, None, MatchOption};
 ghost use Rattle.serde_json.specs.View.{view};
 ghost use Rattle.samoa_grammar.specs.Tree.{part as part_of, list_of, is_number as numbers, number_of, text_of};
 ghost use Rattle.samoa_grammar.specs.Names.{is_name, is_handler_name};
@@ -75,7 +75,8 @@ pub fn optional_number(
     }
 }
 
-fn number_from(value: &Value, key: &str, least: u64) -> Result<u64, Stop>
+/// A number without a limit of its own.
+pub fn number_from(value: &Value, key: &str, least: u64) -> Result<u64, Stop>
     requires some { 0 < length key.now }
     requires few { length key.now ≤ 33 }
     ensures { Reads result (number_from_fault least key.now (view value.now)) (number_of (view value.now)) }
@@ -104,7 +105,16 @@ pub fn optional_numbers(value: &Value, key: &str) -> Result<Words, Stop>
     requires few { length key.now ≤ 33 }
     ensures { Reads result (optional_of key.now (items_fault 0 12 numbers) (view value.now)) (numbers_of key.now (view value.now)) }
 {
-    match value.get(key) {
+    numbers_or_none(value.get(key), key)
+}
+
+/// The numbers of a part that may be left out.
+pub fn numbers_or_none(part: Option<&Value>, key: &str) -> Result<Words, Stop>
+    requires some { 0 < length key.now }
+    requires few { length key.now ≤ 33 }
+    ensures { MatchOption part.entry (Reads result None []) (λ p. Reads result (items_fault 0 12 numbers key.now (view p.now)) (map number_of (list_of (view p.now)))) }
+{
+    match part {
         Some(part) => numbers_in(part, key),
         None => Ok(Words::new()),
     }

@@ -5,9 +5,11 @@
 mod cells;
 mod code;
 mod decls;
+mod does;
 mod events;
 mod inputs;
 mod lists;
+mod members;
 mod micros;
 mod names;
 mod reading;

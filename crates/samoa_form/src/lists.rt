@@ -169,7 +169,7 @@ fn each_object<T: Part + Drop>(alloc: Global, key: &str, list: &[Value]) -> Resu
     requires few { length key.now ≤ 33 }
     ensures { ReadsVec result (first_along (T.Part.fault key.now) (map view list.now)) (map T.Part.meaning (map view list.now)) }
 {
-    let mut found = Vec::new(alloc);
+    let mut found = Vec::with_capacity(alloc, list.len())?;
     for item in list {
         found.push(T::read(alloc, key, item)?)?;
     }

@@ -86,7 +86,16 @@ pub fn required<'v>(value: &'v Value, key: &str) -> Result<&'v Value, Stop>
     ensures { MatchResult result (λ v. get key.now (view value.now) ≡ Some (view v.now))
         (λ e. (get key.now (view value.now) ≡ None) × (e ≡ Stop.Fault (Missing key.now))) }
 {
-    match value.get(key) {
+    present(value.get(key), key)
+}
+
+/// The part that was found at a key, which must be there.
+pub fn present<'v>(part: Option<&'v Value>, key: &str) -> Result<&'v Value, Stop>
+    requires some { 0 < length key.now }
+    requires few { length key.now ≤ 33 }
+    ensures { MatchResult result (λ v. part.entry ≡ Some v) (λ e. (part.entry ≡ None) × (e ≡ Stop.Fault (Missing key.now))) }
+{
+    match part {
         Some(part) => Ok(part),
         None => Err(Stop::Fault(WalkFault::Missing {
             key: Name::new(key),

@@ -7,3 +7,4 @@ pub mod Named
 pub mod Parts
 pub mod Plain
 pub mod Round
+pub mod Sound

@@ -183,23 +183,83 @@ crash_plain : (c : CrashDef) → IsPlain 5 (crash_tree c)
 unfolding crash_tree
 crash_plain c = record { plain = refl; flat = omega arith }
 
+-- ---- the lists of the whole
+
+changes_plain : (script : Script) → IsPlain 6 (list_tree (change_tree script) script.changes)
+changes_plain script = list_plain 5 (change_tree script) script.changes (change_plain script)
+
+decls_plain : (script : Script) → IsPlain 6 (list_tree (decl_tree script) script.decls)
+decls_plain script = list_plain 5 (decl_tree script) script.decls (decl_plain script)
+
+events_plain : (script : Script) → IsPlain 6 (list_tree (event_tree script) script.events)
+events_plain script = list_plain 5 (event_tree script) script.events (event_plain script)
+
+micros_plain : (script : Script) → IsPlain 6 (list_tree (micro_tree script) script.micros)
+micros_plain script = list_plain 5 (micro_tree script) script.micros (micro_plain script)
+
+losses_plain : (ls : List LossDef) → IsPlain 6 (list_tree loss_tree ls)
+losses_plain ls = list_plain 5 loss_tree ls loss_plain
+
+crashes_plain : (cs : List CrashDef) → IsPlain 6 (list_tree crash_tree cs)
+crashes_plain cs = list_plain 5 crash_tree cs crash_plain
+
 tree_plain : (script : Script) → IsPlain 7 (tree_of script)
 unfolding tree_of
 tree_plain script =
     object_plain 6 _
-    (member_plain 6 _ _ _ (list_plain 5 (change_tree script) script.changes (change_plain script))
-    (member_plain 6 _ _ _ (list_plain 5 crash_tree script.crashes crash_plain)
-    (member_plain 6 _ _ _ (list_plain 5 (decl_tree script) script.decls (decl_plain script))
+    (member_plain 6 _ _ _ (changes_plain script)
+    (member_plain 6 _ _ _ (crashes_plain script.crashes)
+    (member_plain 6 _ _ _ (decls_plain script)
     (member_plain 6 _ _ _ (list_plain 5 (do_tree script) script.does (do_plain script))
-    (member_plain 6 _ _ _ (list_plain 5 (event_tree script) script.events (event_plain script))
-    (member_plain 6 _ _ _ (list_plain 5 loss_tree script.losses loss_plain)
-    (member_plain 6 _ _ _ (list_plain 5 (micro_tree script) script.micros (micro_plain script))
+    (member_plain 6 _ _ _ (events_plain script)
+    (member_plain 6 _ _ _ (losses_plain script.losses)
+    (member_plain 6 _ _ _ (micros_plain script)
     (member_plain 6 _ _ _ (number_plain 6 _)
     (member_plain 6 _ _ _ (number_plain 6 _)
     (member_plain 6 _ _ _ (number_plain 6 _) (none_plain 6)))))))))))
 
-pub has_no_float : (script : Script) → has_float (tree_of script) ≡ false
-has_no_float script = (tree_plain script).plain
-
 pub is_flat : (script : Script) → depth (tree_of script) ≤ max_depth
 is_flat script = let flat = (tree_plain script).flat in omega arith
+
+-- ---- what a text of each list asks for
+
+flat_within : (d : Data) → IsPlain 6 d → depth d ≤ max_depth
+flat_within d p = let flat = p.flat in omega arith
+
+pub changes_no_float : (script : Script) → has_float (list_tree (change_tree script) script.changes) ≡ false
+changes_no_float script = (changes_plain script).plain
+
+pub changes_flat : (script : Script) → depth (list_tree (change_tree script) script.changes) ≤ max_depth
+changes_flat script = flat_within _ (changes_plain script)
+
+pub decls_no_float : (script : Script) → has_float (list_tree (decl_tree script) script.decls) ≡ false
+decls_no_float script = (decls_plain script).plain
+
+pub decls_flat : (script : Script) → depth (list_tree (decl_tree script) script.decls) ≤ max_depth
+decls_flat script = flat_within _ (decls_plain script)
+
+pub events_no_float : (script : Script) → has_float (list_tree (event_tree script) script.events) ≡ false
+events_no_float script = (events_plain script).plain
+
+pub events_flat : (script : Script) → depth (list_tree (event_tree script) script.events) ≤ max_depth
+events_flat script = flat_within _ (events_plain script)
+
+pub micros_no_float : (script : Script) → has_float (list_tree (micro_tree script) script.micros) ≡ false
+micros_no_float script = (micros_plain script).plain
+
+pub micros_flat : (script : Script) → depth (list_tree (micro_tree script) script.micros) ≤ max_depth
+micros_flat script = flat_within _ (micros_plain script)
+
+pub losses_no_float : (ls : List LossDef) → has_float (list_tree loss_tree ls) ≡ false
+losses_no_float ls = (losses_plain ls).plain
+
+pub losses_flat : (ls : List LossDef) → depth (list_tree loss_tree ls) ≤ max_depth
+losses_flat ls = flat_within _ (losses_plain ls)
+
+pub crashes_no_float : (cs : List CrashDef) → has_float (list_tree crash_tree cs) ≡ false
+crashes_no_float cs = (crashes_plain cs).plain
+
+pub crashes_flat : (cs : List CrashDef) → depth (list_tree crash_tree cs) ≤ max_depth
+crashes_flat cs = flat_within _ (crashes_plain cs)
+
+pub ruleset parts_plain = (changes_no_float, changes_flat, decls_no_float, decls_flat, events_no_float, events_flat, micros_no_float, micros_flat)

@@ -7,7 +7,6 @@ use Rattle.std.proofs.lemmas.Bool.{lt-ltb}
 use Rattle.std.proofs.lemmas.Bool.Decides.{nat_tests}
 use Rattle.std.proofs.lemmas.List.{length-map}
 use Rattle.std.proofs.lemmas.List.Elements.{All-map, All-head, All-tail}
-use Rattle.serde_json.specs.Data.{Data}
 use Rattle.samoa_model.specs.declared.listed.NoMemory.{NoMemory}
 use Rattle.samoa_model.specs.declared.ids.EventId.{EventId}
 use Rattle.samoa_model.specs.declared.ids.ChangeId.{ChangeId}
@@ -545,7 +544,7 @@ holds_again bytes script json valid short = record {
 }
 
 -- so does the text that was written, where there was memory
-pub written_holds : (written : Result (Vec ℕ Global) NoMemory) (d : Data) (script : Script) → d ≡ tree_of script → IfOk written (λ bytes. IsJson bytes.items d)
+pub written_holds : (written : Result (Vec ℕ Global) NoMemory) (script : Script) → IfOk written (λ bytes. IsJson bytes.items (tree_of script))
     → IfOk written (λ bytes. IsValid script → length bytes.items ≤ 1048576 → Holds bytes.items script)
-written_holds (Ok bytes) d script is json = λ valid short. holds_again bytes.items script (subst (IsJson bytes.items) is json) valid short
-written_holds (Err e) d script is json = tt
+written_holds (Ok bytes) script json = λ valid short. holds_again bytes.items script json valid short
+written_holds (Err e) script json = tt

@@ -1,3 +1,4 @@
 pub mod Canonical
 pub mod Objects
+pub mod Sound
 pub mod Texts

@@ -1,69 +1,86 @@
-//! What happens to the stack, as JSON values.
-ghost use Rattle.std.specs.Prelude.{◌≡◌, codes, IfOk};
-ghost use Rattle.serde_json.specs.Data.{object, member, no_members};
-ghost use Rattle.serde_json.specs.View.{view};
+//! What happens to the stack. A script can have thousands of items of `do`, so their text is appended with no tree.
+ghost use Rattle.std.specs.Prelude.{◌≡◌, string_bytes, OnOk};
+ghost use Rattle.serde_json.specs.Data.{object};
 ghost use Rattle.samoa_model.specs.declared.record.Cause.TheVariants.{Event, Change};
-ghost use Rattle.samoa_print.specs.Objects.{members_in};
-ghost use Rattle.samoa_print.specs.Canonical.{number_tree, do_members};
+ghost use Rattle.samoa_print.specs.Canonical.{list_tree, do_members, do_tree};
+ghost use Rattle.samoa_print.specs.Sound.{AddsAfter};
 
-use crate::listing::{Printed, numbers};
+use crate::listing::Printed;
 use crate::names::{change_name, event_name};
-use crate::object::Object;
+use crate::text::{comma, push, push_number, push_numbers, push_string};
 use samoa_model::{Cause, ChangeId, CrashDef, DoDef, EventId, LossDef, NoMemory, Script};
 use serde_json::{Value, json};
 use std::alloc::Global;
 
-/// An item of `do` that is an event.
-fn event_value(
+/// Appends an item of `do` that is an event.
+fn push_event(
     alloc: Global,
     script: &Script,
+    begin: &str,
     item: &DoDef,
     event: EventId,
-) -> Result<Value, NoMemory>
-    ensures { IfOk result (λ v. view v ≡ object (do_members script.now item.now (Event event))) }
+    out: &mut String,
+) -> Result<(), NoMemory>
+    ensures { OnOk result (AddsAfter begin.now (object (do_members script.now item.now (Event event))) (string_bytes out.old) (string_bytes out.new)) }
 {
-    let object = place_object(alloc, item)?;
-    let object = object.with_text(alloc, "event", event_name(script, event))?;
-    let object = object.with(alloc, "args", numbers(alloc, item.args.as_slice())?)?;
-    Ok(object.done())
+    push(begin, out)?;
+    push_numbers("{\"args\":", item.args.as_slice(), out)?;
+    push_string(alloc, ",\"event\":", event_name(script, event), out)?;
+    push_number(",\"node\":", u64::from(item.node.0), out)?;
+    push_number(",\"tick\":", u64::from(item.tick), out)?;
+    push("}", out)
 }
 
-/// An item of `do` that is a change of bindings.
-fn change_value(
+/// Appends an item of `do` that is a change of bindings.
+fn push_change(
     alloc: Global,
     script: &Script,
+    begin: &str,
     item: &DoDef,
     change: ChangeId,
-) -> Result<Value, NoMemory>
-    ensures { IfOk result (λ v. view v ≡ object (do_members script.now item.now (Change change))) }
+    out: &mut String,
+) -> Result<(), NoMemory>
+    ensures { OnOk result (AddsAfter begin.now (object (do_members script.now item.now (Change change))) (string_bytes out.old) (string_bytes out.new)) }
 {
-    let object = place_object(alloc, item)?;
-    let object = object.with_text(alloc, "change", change_name(script, change))?;
-    let object = object.with(alloc, "args", numbers(alloc, item.args.as_slice())?)?;
-    Ok(object.done())
+    push(begin, out)?;
+    push_numbers("{\"args\":", item.args.as_slice(), out)?;
+    push_string(alloc, ",\"change\":", change_name(script, change), out)?;
+    push_number(",\"node\":", u64::from(item.node.0), out)?;
+    push_number(",\"tick\":", u64::from(item.tick), out)?;
+    push("}", out)
 }
 
-/// The keys of an item of `do` that tell where and when.
-fn place_object(alloc: Global, item: &DoDef) -> Result<Object, NoMemory>
-    ensures { IfOk result (λ o. members_in o ≡ member (codes "node") (number_tree item.now.node.0) (member (codes "tick") (number_tree item.now.tick) no_members)) }
+#[tactic(auto, unfolding(crate::specs::Canonical::do_tree))]
+fn push_do(
+    alloc: Global,
+    script: &Script,
+    begin: &str,
+    item: &DoDef,
+    out: &mut String,
+) -> Result<(), NoMemory>
+    ensures { OnOk result (AddsAfter begin.now (do_tree script.now item.now) (string_bytes out.old) (string_bytes out.new)) }
 {
-    let object = Object::new(alloc);
-    let object = object.with_number(alloc, "tick", u64::from(item.tick))?;
-    object.with_number(alloc, "node", u64::from(item.node.0))
-}
-
-impl Printed for DoDef {
-    ghost use Rattle.samoa_print.specs.Canonical.{do_tree};
-
-    ghost tree = { do_tree };
-
-    #[tactic(auto, unfolding(crate::specs::Canonical::do_tree))]
-    fn value(&self, alloc: Global, script: &Script) -> Result<Value, NoMemory> {
-        match self.cause {
-            Cause::Event(event) => event_value(alloc, script, self, event),
-            Cause::Change(change) => change_value(alloc, script, self, change),
-        }
+    match item.cause {
+        Cause::Event(event) => push_event(alloc, script, begin, item, event, out),
+        Cause::Change(change) => push_change(alloc, script, begin, item, change, out),
     }
+}
+
+/// Appends the items of `do`.
+pub fn push_does(
+    alloc: Global,
+    script: &Script,
+    begin: &str,
+    out: &mut String,
+) -> Result<(), NoMemory>
+    ensures { OnOk result (AddsAfter begin.now (list_tree (do_tree script.now) script.now.does) (string_bytes out.old) (string_bytes out.new)) }
+{
+    push(begin, out)?;
+    push("[", out)?;
+    for (i, item) in script.does.as_slice().iter().enumerate() {
+        push_do(alloc, script, comma(i), item, out)?;
+    }
+    push("]", out)
 }
 
 impl Printed for LossDef {

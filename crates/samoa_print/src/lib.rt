@@ -18,24 +18,23 @@ mod listing;
 mod micros;
 mod names;
 mod object;
+mod text;
 mod whole;
 
 pub use cells::need;
 use samoa_model::{NoMemory, Script};
 use std::alloc::Global;
-use whole::{script_value, tree_text};
+use whole::script_text;
 
 /// The canonical text of a script: one JSON object with no space, in which every optional key stands with its value,
 /// keys stand in byte order and lists in script order. It can be longer than the text that the script was read
 /// from. Where the script is valid, a text of at most 1,048,576 bytes is read as the same script again.
-#[tactic(auto, using(crate::proofs::Plain::has_no_float, crate::proofs::Plain::is_flat))]
 pub fn print_script(alloc: Global, script: &Script) -> Result<Vec<u8>, NoMemory>
     ensures text { IfOk result (λ bytes. bytes.items ≡ compact_text (tree_of script.now)) }
     ensures json { IfOk result (λ bytes. IsJson bytes.items (tree_of script.now)) }
     ensures holds { IfOk result (λ bytes. IsValid script.now → length bytes.items ≤ 1048576 → Holds bytes.items script.now) }
 {
-    let value = script_value(alloc, script)?;
-    tree_text(alloc, &value)
+    script_text(alloc, script)
 }
 
 /// The canonical tree of a valid script passes the walk, and means that script.

@@ -1,63 +1,63 @@
-//! The whole script as a JSON value, and its text.
-ghost use Rattle.std.specs.Prelude.{◌≡◌, ◌≤◌, false, IfOk};
+//! The text of the whole script.
+ghost use Rattle.std.specs.Prelude.{◌≡◌, ◌≤◌, string_bytes, false, IfOk, OnOk};
 ghost use Rattle.serde_json.specs.Data.{depth};
 ghost use Rattle.serde_json.specs.Read.{max_depth};
 ghost use Rattle.serde_json.specs.Written.{compact_text, has_float};
-ghost use Rattle.serde_json.specs.View.{view};
 ghost use Rattle.samoa_grammar.specs.Tree.{IsJson};
-ghost use Rattle.samoa_print.specs.Objects.{members_in};
-ghost use Rattle.samoa_print.specs.Canonical.{stack_members, binding_members, tree_of};
+ghost use Rattle.samoa_print.specs.Canonical.{list_tree, tree_of};
+ghost use Rattle.samoa_print.specs.Sound.{Adds, AddsAfter};
 
-use crate::listing::list;
-use crate::object::Object;
+use crate::inputs::push_does;
+use crate::listing::{Printed, list};
+use crate::text::{push, push_number, push_value};
 use samoa_model::{NoMemory, Script};
-use serde_json::Value;
 use std::alloc::Global;
 
-/// The keys from `lose` on.
-fn stack_object(alloc: Global, script: &Script) -> Result<Object, NoMemory>
-    ensures { IfOk result (λ o. members_in o ≡ stack_members script.now) }
+/// Appends a list of parts, by the trees of all of them.
+fn push_list<T: Printed>(
+    alloc: Global,
+    script: &Script,
+    begin: &str,
+    items: &[T],
+    out: &mut String,
+) -> Result<(), NoMemory>
+    requires plain { has_float (list_tree (T.Printed.tree script.now) items.now) ≡ false }
+    requires flat { depth (list_tree (T.Printed.tree script.now) items.now) ≤ max_depth }
+    ensures { OnOk result (AddsAfter begin.now (list_tree (T.Printed.tree script.now) items.now) (string_bytes out.old) (string_bytes out.new)) }
 {
-    let micros = list(alloc, script, script.micros.as_slice())?;
-    let losses = list(alloc, script, script.losses.as_slice())?;
-    let object = Object::new(alloc).with_number(alloc, "version", 1)?;
-    let object = object.with_number(alloc, "ticks", u64::from(script.ticks))?;
-    let object = object.with_number(alloc, "nodes", u64::from(script.nodes))?;
-    let object = object.with(alloc, "micros", micros)?;
-    object.with(alloc, "lose", losses)
+    let value = list(alloc, script, items)?;
+    push_value(alloc, begin, &value, out)
 }
 
-/// The keys from `decls` on.
-fn binding_object(alloc: Global, script: &Script) -> Result<Object, NoMemory>
-    ensures { IfOk result (λ o. members_in o ≡ binding_members script.now) }
+#[tactic(auto, using(crate::proofs::Plain::parts_plain))]
+fn push_script(alloc: Global, script: &Script, out: &mut String) -> Result<(), NoMemory>
+    ensures { OnOk result (Adds (tree_of script.now) (string_bytes out.old) (string_bytes out.new)) }
 {
-    let events = list(alloc, script, script.events.as_slice())?;
-    let does = list(alloc, script, script.does.as_slice())?;
-    let decls = list(alloc, script, script.decls.as_slice())?;
-    let object = stack_object(alloc, script)?;
-    let object = object.with(alloc, "events", events)?;
-    let object = object.with(alloc, "do", does)?;
-    object.with(alloc, "decls", decls)
+    push_list(
+        alloc,
+        script,
+        "{\"changes\":",
+        script.changes.as_slice(),
+        out,
+    )?;
+    push_list(alloc, script, ",\"crash\":", script.crashes.as_slice(), out)?;
+    push_list(alloc, script, ",\"decls\":", script.decls.as_slice(), out)?;
+    push_does(alloc, script, ",\"do\":", out)?;
+    push_list(alloc, script, ",\"events\":", script.events.as_slice(), out)?;
+    push_list(alloc, script, ",\"lose\":", script.losses.as_slice(), out)?;
+    push_list(alloc, script, ",\"micros\":", script.micros.as_slice(), out)?;
+    push_number(",\"nodes\":", u64::from(script.nodes), out)?;
+    push_number(",\"ticks\":", u64::from(script.ticks), out)?;
+    push_number(",\"version\":", 1, out)?;
+    push("}", out)
 }
 
-#[tactic(auto, unfolding(crate::specs::Canonical::tree_of))]
-pub fn script_value(alloc: Global, script: &Script) -> Result<Value, NoMemory>
-    ensures { IfOk result (λ v. view v ≡ tree_of script.now) }
+/// The text of a script, which is read as its tree.
+pub fn script_text(alloc: Global, script: &Script) -> Result<Vec<u8>, NoMemory>
+    ensures text { IfOk result (λ bytes. bytes.items ≡ compact_text (tree_of script.now)) }
+    ensures holds { IfOk result (λ bytes. IsJson bytes.items (tree_of script.now)) }
 {
-    let crashes = list(alloc, script, script.crashes.as_slice())?;
-    let changes = list(alloc, script, script.changes.as_slice())?;
-    let object = binding_object(alloc, script)?;
-    let object = object.with(alloc, "crash", crashes)?;
-    let object = object.with(alloc, "changes", changes)?;
-    Ok(object.done())
-}
-
-/// The text of a tree that has no float and isn't deep: it is the compact text, and reads back as the tree.
-pub fn tree_text(alloc: Global, value: &Value) -> Result<Vec<u8>, NoMemory>
-    requires plain { has_float (view value.now) ≡ false }
-    requires flat { depth (view value.now) ≤ max_depth }
-    ensures text { IfOk result (λ bytes. bytes.items ≡ compact_text (view value.now)) }
-    ensures holds { IfOk result (λ bytes. IsJson bytes.items (view value.now)) }
-{
-    Ok(value.to_vec(alloc)?)
+    let mut out = String::new(alloc);
+    push_script(alloc, script, &mut out)?;
+    Ok(out.into_bytes())
 }
