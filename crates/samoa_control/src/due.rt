@@ -47,6 +47,16 @@ impl<B: Micro> Control<B> {
         self.has_turn(comp, micro) && self.is_quiet(comp, micro)
     }
 
+    /// Whether the end of a computation may be due, by what is tested at once: it hasn't ended, and nothing is left of it.
+    pub fn may_end(&self, comp: u32) -> bool
+        requires kept { cleared_comps self.now < comp }
+        requires admitted { comp ≤ length self.now.exts }
+        ensures { IsDue self.now (Step.End comp) → result ≡ true }
+    {
+        self.recall();
+        !self.has_ended(comp) && self.is_idle(comp)
+    }
+
     /// Whether an end is due.
     pub fn can_end(&self, comp: u32) -> bool
         requires kept { cleared_comps self.now < comp }

@@ -38,7 +38,7 @@ out-of t g sound away = record { admitted = (back t g sound away).leaves.out.adm
 pub leave-can : (t u : Trace) (rows rows1 : Rows) (g : Going) → IsSound t → IsAway t g → u ≡ with_step t (Step.Leave g.comp) → IsIndexedBy t rows
     → ((x : Index) → IsKeptAt u rows x → HasLeft u rows1 x g.comp) → CanPass u rows1 g.comp g.micro
 leave-can t u rows rows1 g sound away e by marks = subst (λ (x : Trace). CanPass x rows1 g.comp g.micro) (sym e) (record {
-  index = left by.index (g.comp - 1) has.enters;
+  index = left by.index (g.comp - 1) has.notes;
   keeps = has.keeps;
   since = subst (λ (n : ℕ). n < g.comp) (sym (cleared-step t (Step.Leave g.comp) sound.run)) here.since;
   admitted = here.admitted;
@@ -69,10 +69,10 @@ pub leave-passes : (t u : Trace) (rows rows1 rows2 : Rows) (g : Going) → IsSou
     → ((x : Index) → IsKeptAt u rows x → HasLeft u rows1 x g.comp) → ((x : Index) → IsKeptAt u rows1 x → Passes u rows2 x g.comp g.micro)
     → (state u).private (g.comp - 1) ((play u).node (g.comp - 1)) g.micro ≤ (state u).local ((play u).node (g.comp - 1)) g.micro → IsIndexedBy u rows2
 leave-passes t u rows rows1 rows2 g sound away e by marks passes past = subst (λ (x : Trace). IsIndexedBy x rows2) (sym e)
-    (left-passes t rows2 by.index g.comp g.micro has.enters sound.run by.is (out-of t g sound away)
+    (left-passes t rows2 by.index g.comp g.micro has.notes sound.run by.is (out-of t g sound away)
     (subst (λ (x : Trace). (state x).private (g.comp - 1) ((play x).node (g.comp - 1)) g.micro ≤ (state x).local ((play x).node (g.comp - 1)) g.micro) e past)
     has.tells
-    (subst (λ (x : Trace). (y : Index) → IsKeptAt x rows1 y → Passes x rows2 y g.comp g.micro) e passes (left by.index (g.comp - 1) has.enters) has.keeps))
+    (subst (λ (x : Trace). (y : Index) → IsKeptAt x rows1 y → Passes x rows2 y g.comp g.micro) e passes (left by.index (g.comp - 1) has.notes) has.keeps))
   where
     has : HasLeft (with_step t (Step.Leave g.comp)) rows1 by.index g.comp
     has = subst (λ (x : Trace). (y : Index) → IsKeptAt x rows y → HasLeft x rows1 y g.comp) e marks by.index (left-on t rows by.index g.comp sound.run by.keeps)

@@ -5,7 +5,7 @@ use Rattle.std.proofs.lemmas.Bool.{cases_eq, eq-eqb, le-ltb, lt-ltb, ltb-true, n
 use Rattle.samoa_model.specs.Allowed.{weight}
 use Rattle.samoa_model.specs.declared.record.Ext.{Ext}
 use Rattle.samoa_model.specs.declared.record.Step.{Step}
-use Rattle.samoa_invariant.specs.Index.{Index, IsIndexed, IsTailOf, TellsEntry, TellsNamed, is_tail, left, or_else, admitted as admitted_by}
+use Rattle.samoa_invariant.specs.Index.{Index, IsIndexed, IsTailOf, TellsNamed, TellsNotes, is_tail, left, or_else, admitted as admitted_by}
 use Rattle.samoa_invariant.specs.Inv.{Invariant}
 use Rattle.samoa_invariant.specs.Play.{Agree, Play}
 use Rattle.samoa_invariant.specs.State as model
@@ -377,9 +377,9 @@ tail-row t rows g m j below joins from lt =
 pub has-admitted : (t : Trace) (rows : Rows) (g : Index) (comp : ℕ) → IsSound t → IsLast t comp
     → HasLeft t rows (joined g (last_one t) (last_node t) (named_to t (length t.script.micros))) comp → HasAdmitted t rows g
 has-admitted t rows g comp sound is has = record {
-  enters = has.enters;
-  tells = subst (λ (k : ℕ). TellsEntry (play t) (state t) k has.enters) (last-is t comp sound is) has.tells;
-  keeps = subst (λ (k : ℕ). IsKeptAt t rows (left (joined g (last_one t) (last_node t) (named_to t (length t.script.micros))) k has.enters)) (last-is t comp sound is) has.keeps;
+  notes = has.notes;
+  tells = subst (λ (k : ℕ). TellsNotes (play t) (state t) k has.notes) (last-is t comp sound is) has.tells;
+  keeps = subst (λ (k : ℕ). IsKeptAt t rows (left (joined g (last_one t) (last_node t) (named_to t (length t.script.micros))) k has.notes)) (last-is t comp sound is) has.keeps;
 }
 
 -- an admission, as the model has it
@@ -475,17 +475,17 @@ admitted-by t ext rows g before sound is has =
       is = subst (λ (n : ℕ). IsIndexed (play u) n (state u) admitted_index) (sym a.cleared)
           (subst (λ (core : model.Core). IsIndexed (play u) (cleared_comps t) core admitted_index) (sym a.made)
           (subst (λ (k : ℕ). IsIndexed (play u) (cleared_comps t) (model.made_by (play u) (state t) model.Step.Admit) (of k)) (sym a.last)
-          (admitted_indexed (play u) (cleared_comps t) (state t) g (named_to u (length u.script.micros)) has.enters
+          (admitted_indexed (play u) (cleared_comps t) (state t) g (named_to u (length u.script.micros)) has.notes
           (subst (λ (core : model.Core). Invariant (play u) core) (state-ext t ext before.run) (invariant (with_ext t ext) (is_run-with_ext t ext before.run)))
           (indexed-agree (play t) (play u) (cleared_comps t) (state t) g
           (agree-back (play u) (play t) (state t).count (subst (λ (n : ℕ). Agree (play u) (play t) n) (sym all) (agree t.script t.cells t.exts ext))) is)
           (subst (λ (k : ℕ). TellsNamed (play u) k (named_to u (length u.script.micros))) a.last tells_named)
-          (subst (λ (core : model.Core). TellsEntry (play u) core (state t).count has.enters) a.made
-          (subst (λ (k : ℕ). TellsEntry (play u) (state u) k has.enters) a.last has.tells)))));
+          (subst (λ (core : model.Core). TellsNotes (play u) core (state t).count has.notes) a.made
+          (subst (λ (k : ℕ). TellsNotes (play u) (state u) k has.notes) a.last has.tells)))));
     }
   where
     of : ℕ → Index
-    of k = admitted_by g k ((play (admitted t ext)).node k) (named_to (admitted t ext) (length t.script.micros)) has.enters
+    of k = admitted_by g k ((play (admitted t ext)).node k) (named_to (admitted t ext) (length t.script.micros)) has.notes
 
     admitted_index : Index
     admitted_index = of (last_one (admitted t ext))

@@ -44,20 +44,26 @@ marks-entry t rows g comp enters sound here tells keeps = record {
   keeps = keeps-ready t.script.nodes (length t.script.micros) (cleared_comps t) (state t).count rows g (comp - 1) enters (from-here t comp here) (most-here t comp sound here) keeps;
 }
 
-pub has-left : (t : Trace) (rows : Rows) (g : Index) (comp : ℕ) → IsSound t → IsHere t comp → MarksEntry t rows g comp
-    → HasLeft t (record rows { restless = set rows.restless (comp - 1 - cleared_comps t) true; closing = set rows.closing (comp - 1 - cleared_comps t) true }) g comp
-has-left t rows g comp sound here has =
+pub has-left : (t : Trace) (rows : Rows) (g : Index) (comp : ℕ) (restless closing : Bool) → IsSound t → IsHere t comp
+    → ((micro : ℕ) → IsDue t (Step.Release comp micro) → restless ≡ true) → (IsDue t (Step.End comp) → closing ≡ true) → MarksEntry t rows g comp
+    → HasLeft t (record rows { restless = set rows.restless (comp - 1 - cleared_comps t) restless; closing = set rows.closing (comp - 1 - cleared_comps t) closing }) g comp
+has-left t rows g comp restless closing sound here releases ends has =
     let k : ℕ = comp - 1 in
     let v : ℕ = t.script.nodes in
     let n : ℕ = length t.script.micros in
     let first : ℕ = cleared_comps t in
-    let mid : Rows = record rows { restless = set rows.restless (k - first) true } in
+    let mid : Rows = record rows { restless = set rows.restless (k - first) restless } in
     let marked : Index = abandoned g k has.enters in
+    let since = here.since in
     record {
-      enters = has.enters;
-      tells = has.tells;
-      keeps = keeps-closing v n first (state t).count mid (record marked { restless = model.put marked.restless k true }) k true (from-here t comp here) (most-here t comp sound here)
-          (keeps-restless v n first (state t).count rows marked k true (from-here t comp here) (most-here t comp sound here) has.keeps);
+      notes = record { enters = has.enters; restless = restless; closing = closing };
+      tells = record {
+        entry = has.tells;
+        release = λ micro can. releases micro (record { number = omega (arith, since); enabled = can });
+        end = λ can. ends (record { number = omega (arith, since); enabled = can });
+      };
+      keeps = keeps-closing v n first (state t).count mid (record marked { restless = model.put marked.restless k restless }) k closing (from-here t comp here) (most-here t comp sound here)
+          (keeps-restless v n first (state t).count rows marked k restless (from-here t comp here) (most-here t comp sound here) has.keeps);
     }
 
 pub is-greeted : (t : Trace) (rows : Rows) (g : Index) (number : ℕ) → IsSound t → IsHere t (number + 1) → MarksEntry t rows g (number + 1)

@@ -4,7 +4,7 @@ use Rattle.samoa_model.specs.declared.handler.Moment.{Moment}
 use Rattle.samoa_model.specs.declared.record.Step.{Step}
 use Rattle.samoa_serial.specs.declared.call.Call.{Call}
 use Rattle.samoa_serial.specs.Alone.{next_step}
-use Rattle.samoa_invariant.specs.Index.{Index, IsIndexed, IsNextOf, TellsEntry, TellsNext, left, passed_on, released}
+use Rattle.samoa_invariant.specs.Index.{Index, IsIndexed, IsNextOf, Notes, TellsEntry, TellsNext, TellsNotes, left, passed_on, released}
 use Rattle.samoa_invariant.specs.Inv.{Invariant}
 use Rattle.samoa_invariant.specs.Play.{Play}
 use Rattle.samoa_invariant.specs.State as model
@@ -85,25 +85,25 @@ left-holds t rows g comp p run is out short has =
     let low : (model.made_by (play t) (state t) (model.Step.Leave k)).local v p < (state t).private k v p =
     subst (λ (f : ℕ → ℕ → ℕ → ℕ). (model.made_by (play t) (state t) (model.Step.Leave k)).local v p < f k v p) (private-stays t comp run)
     (subst (λ (core : model.Core). core.local v p < (state (with_step t (Step.Leave comp))).private k v p) same short) in
-    made-indexed t (Step.Leave comp) rows (left g k has.enters) run has.keeps
-    (left_kept (play t) (cleared_comps t) (state t) k p g has.enters (invariant t run) out is low
-    (subst (λ (core : model.Core). TellsEntry (play t) core k has.enters) same has.tells))
+    made-indexed t (Step.Leave comp) rows (left g k has.notes) run has.keeps
+    (left_kept (play t) (cleared_comps t) (state t) k p g has.notes (invariant t run) out is low
+    (subst (λ (core : model.Core). TellsNotes (play t) core k has.notes) same has.tells))
 
 -- and passes its queue on
-pub left-passes : (t : Trace) (rows : Rows) (g : Index) (comp p : ℕ) (enters : Bool) → IsRun t → IsIndexed (play t) (cleared_comps t) (state t) g → model.IsOut (play t) (state t) (comp - 1) p
+pub left-passes : (t : Trace) (rows : Rows) (g : Index) (comp p : ℕ) (notes : Notes) → IsRun t → IsIndexed (play t) (cleared_comps t) (state t) g → model.IsOut (play t) (state t) (comp - 1) p
     → (let w : Trace = with_step t (Step.Leave comp) in (state w).private (comp - 1) ((play t).node (comp - 1)) p ≤ (state w).local ((play t).node (comp - 1)) p)
-    → TellsEntry (play t) (state (with_step t (Step.Leave comp))) (comp - 1) enters
-    → Passes (with_step t (Step.Leave comp)) rows (left g (comp - 1) enters) comp p → IsIndexedBy (with_step t (Step.Leave comp)) rows
-left-passes t rows g comp p enters run is out past tells has =
+    → TellsNotes (play t) (state (with_step t (Step.Leave comp))) (comp - 1) notes
+    → Passes (with_step t (Step.Leave comp)) rows (left g (comp - 1) notes) comp p → IsIndexedBy (with_step t (Step.Leave comp)) rows
+left-passes t rows g comp p notes run is out past tells has =
     let k : ℕ = comp - 1 in
     let v : ℕ = (play t).node k in
     let same : state (with_step t (Step.Leave comp)) ≡ model.made_by (play t) (state t) (model.Step.Leave k) = state-step t (Step.Leave comp) run in
     let low : (state t).private k v p ≤ (model.made_by (play t) (state t) (model.Step.Leave k)).local v p =
     subst (λ (f : ℕ → ℕ → ℕ → ℕ). f k v p ≤ (model.made_by (play t) (state t) (model.Step.Leave k)).local v p) (private-stays t comp run)
     (subst (λ (core : model.Core). (state (with_step t (Step.Leave comp))).private k v p ≤ core.local v p) same past) in
-    made-indexed t (Step.Leave comp) rows (passed_on (left g k enters) v p (g.next k p) has.enters) run has.keeps
-    (left_passed (play t) (cleared_comps t) (state t) k p g enters has.enters (invariant t run) out is low
-    (subst (λ (core : model.Core). TellsEntry (play t) core k enters) same tells)
+    made-indexed t (Step.Leave comp) rows (passed_on (left g k notes) v p (g.next k p) has.enters) run has.keeps
+    (left_passed (play t) (cleared_comps t) (state t) k p g notes has.enters (invariant t run) out is low
+    (subst (λ (core : model.Core). TellsNotes (play t) core k notes) same tells)
     (subst (λ (core : model.Core). TellsNext (play t) core (g.next k p) has.enters) same has.tells))
 
 -- a handler step that was taken back

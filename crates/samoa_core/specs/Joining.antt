@@ -1,7 +1,7 @@
 -- A computation that was just admitted comes into the index.
 use Rattle.std.specs.Prelude.{◌≡◌, ◌-◌, ◌*◌, ◌<◌, ◌≤◌, ℕ, length, Bool, ◌&&◌, ◌==◌, if◌then◌else◌, nat_lt, Some, None}
 use Rattle.samoa_model.specs.Allowed.{weight}
-use Rattle.samoa_invariant.specs.Index.{Index, TellsEntry, admitted, is_tail, or_else}
+use Rattle.samoa_invariant.specs.Index.{Index, Notes, TellsNotes, admitted, is_tail, or_else}
 use Rattle.samoa_invariant.specs.Runs.{Trace, play, state}
 use Rattle.samoa_control.specs.Since.{cleared_comps}
 use Rattle.samoa_core.specs.Indexed.{IsKeptAt, Keeps}
@@ -52,6 +52,6 @@ pub record HasRowFor (t : Trace) (rows : Rows) : Type 0 where
 
 -- it is in the index
 pub record HasAdmitted (t : Trace) (rows : Rows) (g : Index) : Type 0 where
-  pub enters : Bool
-  pub tells : TellsEntry (play t) (state t) (last_one t) enters
-  pub keeps : IsKeptAt t rows (admitted g (last_one t) (last_node t) (named_to t (length t.script.micros)) enters)
+  pub notes : Notes
+  pub tells : TellsNotes (play t) (state t) (last_one t) notes
+  pub keeps : IsKeptAt t rows (admitted g (last_one t) (last_node t) (named_to t (length t.script.micros)) notes)

@@ -1,6 +1,6 @@
 -- What a step changes of an index.
 use Rattle.std.specs.Prelude.{◌≡◌, ◌-◌, ◌<◌, ◌≤◌, ℕ, length, Bool, true, Some}
-use Rattle.samoa_invariant.specs.Index.{Index, TellsEntry, TellsNext, abandoned, left, passed_on, released}
+use Rattle.samoa_invariant.specs.Index.{Index, Notes, TellsEntry, TellsNext, TellsNotes, abandoned, left, passed_on, released}
 use Rattle.samoa_invariant.specs.State.{put}
 use Rattle.samoa_invariant.specs.Runs.{Trace, play, state}
 use Rattle.samoa_control.specs.Since.{cleared_comps}
@@ -19,9 +19,9 @@ pub record MarksEntry (t : Trace) (rows : Rows) (g : Index) (comp : ℕ) : Type 
 
 -- a computation's handler step came back
 pub record HasLeft (t : Trace) (rows : Rows) (g : Index) (comp : ℕ) : Type 0 where
-  pub enters : Bool
-  pub tells : TellsEntry (play t) (state t) (comp - 1) enters
-  pub keeps : IsKeptAt t rows (left g (comp - 1) enters)
+  pub notes : Notes
+  pub tells : TellsNotes (play t) (state t) (comp - 1) notes
+  pub keeps : IsKeptAt t rows (left g (comp - 1) notes)
 
 -- the queue of a microprotocol may go on after a computation: who comes next was admitted since the last clear
 pub record CanPass (t : Trace) (rows : Rows) (comp micro : ℕ) : Type 0 where

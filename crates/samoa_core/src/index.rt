@@ -1,5 +1,5 @@
 //! The index: the queue of each slot, and the sets of those that may begin a handler step, or have a release or an end due.
-ghost use Rattle.std.specs.Prelude.{◌≡◌, ℕ, ◌<◌, ◌≤◌, ◌*◌, ◌+◌, ◌-◌, ◌++◌, List, Option, length, set, slice_get, replicate, Some, None, true, false, IfOk, IfSome, IfNone, OnOk};
+ghost use Rattle.std.specs.Prelude.{◌≡◌, ℕ, ◌<◌, ◌≤◌, ◌*◌, ◌+◌, ◌-◌, ◌++◌, ◌||◌, List, Option, length, set, slice_get, replicate, Some, None, true, false, IfOk, IfSome, IfNone, OnOk};
 ghost use Rattle.samoa_control.specs.Admission.{most_admitted};
 ghost use Rattle.samoa_versions.specs.Ready.{is_member};
 ghost use Rattle.samoa_invariant.specs.Index.{or_else};
@@ -168,6 +168,22 @@ impl Index {
         mark(&mut self.restless, place, restless);
     }
 
+    /// Notes that a release of the computation at a place may be due, if it may; else what was noted stays.
+    pub(crate) fn add_restless(&mut self, place: u32, restless: bool)
+        requires { place < length self.old.restless }
+        ensures { self.new ≡ record self.old { restless = set self.old.restless place (restless || is_member self.old.restless place) } }
+    {
+        add(&mut self.restless, place, restless);
+    }
+
+    /// The same of its end.
+    pub(crate) fn add_closing(&mut self, place: u32, closing: bool)
+        requires { place < length self.old.closing }
+        ensures { self.new ≡ record self.old { closing = set self.old.closing place (closing || is_member self.old.closing place) } }
+    {
+        add(&mut self.closing, place, closing);
+    }
+
     /// Notes whether the end of the computation at a place may be due.
     pub(crate) fn mark_closing(&mut self, place: u32, closing: bool)
         requires { place < length self.old.closing }
@@ -290,6 +306,16 @@ fn mark(members: &mut Ready, at: u32, member: bool)
         members.set(at);
     } else {
         members.unset(at);
+    }
+}
+
+/// Makes a number a member of a set, if that is said; else the set stays as it is.
+fn add(members: &mut Ready, at: u32, member: bool)
+    requires { at < length members.old }
+    ensures { members.new ≡ set members.old at (member || is_member members.old at) }
+{
+    if member {
+        members.set(at);
     }
 }
 

@@ -12,7 +12,7 @@ ghost use Rattle.samoa_core.specs.Indexed.{IsIndexedBy};
 ghost use Rattle.samoa_core.specs.Joining.{CanJoin, HasAdmitted, HasRowFor, Joins, TailsWithin, WasKeptFor};
 
 use crate::index::{Index, place};
-use crate::keeping::mark_entry;
+use crate::keeping::take_note;
 use samoa_control::Control;
 use samoa_micro::Micro;
 use samoa_model::{Ext, NoMemory};
@@ -60,9 +60,7 @@ fn take_up<B: Micro>(control: &Control<B>, index: &mut Index, comp: u32)
     let at = place(comp, control.cleared());
     index.blank(at);
     join_queues(control, index, comp);
-    mark_entry(control, index, comp);
-    index.mark_restless(at, true);
-    index.mark_closing(at, true);
+    take_note(control, index, comp);
 }
 
 /// Puts a computation that was just admitted at the end of its queues.

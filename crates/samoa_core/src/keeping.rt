@@ -48,7 +48,7 @@ pub(crate) fn leave<B: Micro>(control: &mut Control<B>, index: &mut Index, ran: 
     let micro = ran.micro();
     control.recall();
     control.leave(ran);
-    come_back(control, index, comp);
+    take_note(control, index, comp);
     if !control.holds(comp, micro) {
         pass_on(control, index, comp, micro);
     }
@@ -115,9 +115,9 @@ pub(crate) fn clear<B: Micro>(control: &mut Control<B>, index: &mut Index)
     }
 }
 
-/// Notes of a computation that came back: whether it may begin its next handler step, and that a release or its end may be
-/// due.
-fn come_back<B: Micro>(control: &Control<B>, index: &mut Index, comp: u32)
+/// Notes of a computation that came back or was just admitted whether it may begin its next handler step, and whether a
+/// release or its end may be due.
+pub(crate) fn take_note<B: Micro>(control: &Control<B>, index: &mut Index, comp: u32)
     requires sized { IsSized index.old }
     requires kept { cleared_comps control.now < comp }
     requires admitted { comp ≤ length control.now.exts }
@@ -126,8 +126,8 @@ fn come_back<B: Micro>(control: &Control<B>, index: &mut Index, comp: u32)
     control.recall();
     let at = place(comp, control.cleared());
     mark_entry(control, index, comp);
-    index.mark_restless(at, true);
-    index.mark_closing(at, true);
+    index.add_restless(at, control.may_have_releases(comp));
+    index.add_closing(at, control.may_end(comp));
 }
 
 /// Notes whether a computation may begin its next handler step.

@@ -66,7 +66,19 @@ MayEnter P core k = (p : ℕ) × CanEnter P (running core) k p
 abbrev pub TellsEntry : Play → Core → ℕ → Bool → Type 0
 TellsEntry P core k enters = (enters ≡ true) ↔ MayEnter P core k
 
--- the same of who comes next, if anyone does
+-- what is noted of a computation: whether it may enter, and whether a release or the end of it may be due
+pub record Notes : Type 0 where
+  pub enters : Bool
+  pub restless : Bool
+  pub closing : Bool
+
+-- the notes tell no less than is so
+pub record TellsNotes (P : Play) (core : Core) (k : ℕ) (notes : Notes) : Type 0 where
+  pub entry : TellsEntry P core k notes.enters
+  pub release : (p : ℕ) → CanRelease P core k p → notes.restless ≡ true
+  pub end : CanEnd P core k → notes.closing ≡ true
+
+-- a test says whether who comes next may enter, if anyone does
 abbrev pub TellsNext : Play → Core → Option ℕ → Bool → Type 0
 TellsNext P core x enters = (j : ℕ) → x ≡ Some j → TellsEntry P core j enters
 
@@ -121,12 +133,12 @@ placed first members k = is_member members (k - first)
 abbrev pub entered : Index → ℕ → Index
 entered index k = record index { ready = put index.ready k false }
 
--- a release or the end of k may be due, and it may enter or not
-abbrev pub left : Index → ℕ → Bool → Index
-left index k enters = record index {
-  ready = put index.ready k enters;
-  restless = put index.restless k true;
-  closing = put index.closing k true;
+-- k's handler step came back, and this is noted of it
+abbrev pub left : Index → ℕ → Notes → Index
+left index k notes = record index {
+  ready = put index.ready k notes.enters;
+  restless = put index.restless k notes.restless;
+  closing = put index.closing k notes.closing;
 }
 
 -- the queue of a slot goes on to who comes next, who may then enter or not
@@ -164,13 +176,13 @@ abbrev pub is_tail : Option ℕ → ℕ → Bool
 is_tail None j = false
 is_tail (Some t) j = t == j
 
--- k was admitted at node v, and comes last in the queue of each microprotocol that is named
-abbrev pub admitted : Index → ℕ → ℕ → (ℕ → Bool) → Bool → Index
-admitted index k v named enters = record {
+-- k was admitted at node v, comes last in the queue of each microprotocol that is named, and this is noted of it
+abbrev pub admitted : Index → ℕ → ℕ → (ℕ → Bool) → Notes → Index
+admitted index k v named notes = record {
   head = λ u p. if (u == v) && named p then or_else (index.head u p) k else index.head u p;
   tail = λ u p. if (u == v) && named p then Some k else index.tail u p;
   next = λ j p. if j == k then None else (if named p && is_tail (index.tail v p) j then Some k else index.next j p);
-  ready = put index.ready k enters;
-  restless = put index.restless k true;
-  closing = put index.closing k true;
+  ready = put index.ready k notes.enters;
+  restless = put index.restless k notes.restless;
+  closing = put index.closing k notes.closing;
 }

@@ -7,7 +7,7 @@ ghost use Rattle.samoa_serial.specs.SerialRun.{serial};
 ghost use Rattle.samoa_invariant.specs.Play.{Agree, Never, Play, attempts, is_bound, stood};
 ghost use Rattle.samoa_invariant.specs.Within.{IsWithin};
 ghost use Rattle.samoa_invariant.specs.State.{AllEnded, CanEnd, CanEnter, CanRelease, Core, GoesOnTo, HasTurn, IsEnabled, IsForward, IsNextAt, IsOut, NothingOut, Reached, Step, WholeRun, admit, cells_to, empty, enter, finish, left as steps_left, made_by, release};
-ghost use Rattle.samoa_invariant.specs.Index.{Index, IsHead, IsHeadOf, IsIndexed, IsNextOf, MayEnter, TellsEntry, TellsNamed, TellsNext, abandoned, admitted, entered, left, none_indexed, passed_on, released};
+ghost use Rattle.samoa_invariant.specs.Index.{Index, IsHead, IsHeadOf, IsIndexed, IsNextOf, MayEnter, Notes, TellsEntry, TellsNamed, TellsNext, TellsNotes, abandoned, admitted, entered, left, none_indexed, passed_on, released};
 ghost use Rattle.samoa_invariant.specs.Inv.{AnswersSerially, HasSerialAnswer, Invariant, Meets, PlaysScript};
 
 /// Every declaration, of any form, meets what the core asks of it.
@@ -79,21 +79,21 @@ pub fn queues_give_the_turn()
         → IsHeadOf play (release play core k p) (play.node k) p next }
 {}
 
-/// An index goes on with each step: but for an admission, no more of it changes than what is told of the step's own
+/// An index goes on with each step: but for an admission, no more of it changes than what is noted of the step's own
 /// computation and of who comes next at the slot. A release marks no computation restless but a later one.
 pub fn an_index_goes_on()
     ensures opening { (play : Play) → IsIndexed play 0 (empty play) none_indexed }
-    ensures admitted { (play : Play) (first : ℕ) (core : Core) (index : Index) (named : ℕ → Bool) (enters : Bool) → Reached play core → IsIndexed play first core index → TellsNamed play core.count named
-        → TellsEntry play (admit play core) core.count enters → IsIndexed play first (admit play core) (admitted index core.count (play.node core.count) named enters) }
+    ensures admitted { (play : Play) (first : ℕ) (core : Core) (index : Index) (named : ℕ → Bool) (notes : Notes) → Reached play core → IsIndexed play first core index → TellsNamed play core.count named
+        → TellsNotes play (admit play core) core.count notes → IsIndexed play first (admit play core) (admitted index core.count (play.node core.count) named notes) }
     ensures entered { (play : Play) (first : ℕ) (core : Core) (index : Index) (k p : ℕ) → Reached play core → IsIndexed play first core index → CanEnter play core k p
         → IsIndexed play first (enter play core k p) (entered index k) }
-    ensures left { (play : Play) (first : ℕ) (core : Core) (index : Index) (k p : ℕ) (enters : Bool) → Reached play core → IsIndexed play first core index → IsOut play core k p
-        → (made_by play core (Step.Leave k)).local (play.node k) p < core.private k (play.node k) p → TellsEntry play (made_by play core (Step.Leave k)) k enters
-        → IsIndexed play first (made_by play core (Step.Leave k)) (left index k enters) }
-    ensures passed_on { (play : Play) (first : ℕ) (core : Core) (index : Index) (k p : ℕ) (enters next_enters : Bool) → Reached play core → IsIndexed play first core index → IsOut play core k p
-        → core.private k (play.node k) p ≤ (made_by play core (Step.Leave k)).local (play.node k) p → TellsEntry play (made_by play core (Step.Leave k)) k enters
+    ensures left { (play : Play) (first : ℕ) (core : Core) (index : Index) (k p : ℕ) (notes : Notes) → Reached play core → IsIndexed play first core index → IsOut play core k p
+        → (made_by play core (Step.Leave k)).local (play.node k) p < core.private k (play.node k) p → TellsNotes play (made_by play core (Step.Leave k)) k notes
+        → IsIndexed play first (made_by play core (Step.Leave k)) (left index k notes) }
+    ensures passed_on { (play : Play) (first : ℕ) (core : Core) (index : Index) (k p : ℕ) (notes : Notes) (next_enters : Bool) → Reached play core → IsIndexed play first core index → IsOut play core k p
+        → core.private k (play.node k) p ≤ (made_by play core (Step.Leave k)).local (play.node k) p → TellsNotes play (made_by play core (Step.Leave k)) k notes
         → TellsNext play (made_by play core (Step.Leave k)) (index.next k p) next_enters
-        → IsIndexed play first (made_by play core (Step.Leave k)) (passed_on (left index k enters) (play.node k) p (index.next k p) next_enters) }
+        → IsIndexed play first (made_by play core (Step.Leave k)) (passed_on (left index k notes) (play.node k) p (index.next k p) next_enters) }
     ensures abandoned { (play : Play) (first : ℕ) (core : Core) (index : Index) (k p : ℕ) (enters : Bool) → Reached play core → IsIndexed play first core index → IsOut play core k p
         → TellsEntry play (made_by play core (Step.Abandon k)) k enters → IsIndexed play first (made_by play core (Step.Abandon k)) (abandoned index k enters) }
     ensures released { (play : Play) (first : ℕ) (core : Core) (index : Index) (k p : ℕ) (enters : Bool) → Reached play core → IsIndexed play first core index → CanRelease play core k p

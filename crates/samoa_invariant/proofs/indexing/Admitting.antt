@@ -6,7 +6,7 @@ use Rattle.samoa_invariant.specs.Slots.{At}
 use Rattle.samoa_invariant.specs.Play.{Play, weight_at}
 use Rattle.samoa_invariant.specs.State.{CanEnd, CanRelease, Core, Step, admit, made_by, put}
 use Rattle.samoa_invariant.specs.Inv.{Invariant}
-use Rattle.samoa_invariant.specs.Index.{Declares, Index, IsAfter, IsFree, IsHead, IsHeadOf, IsIndexed, IsLast, IsNextOf, IsTail, IsTailOf, IsUnmarked, MayEnter, TellsEntry, TellsNamed, admitted, is_tail, or_else}
+use Rattle.samoa_invariant.specs.Index.{Declares, Index, IsAfter, IsFree, IsHead, IsHeadOf, IsIndexed, IsLast, IsNextOf, IsTail, IsTailOf, IsUnmarked, MayEnter, Notes, TellsNamed, TellsNotes, admitted, is_tail, or_else}
 use Rattle.samoa_invariant.proofs.preservation.Slots.{put-else, put-here}
 use Rattle.samoa_invariant.proofs.preservation.Versions.{in_order, weight_at-is}
 use Rattle.samoa_invariant.proofs.indexing.Carried.{Carries, carried_end, carried_enter, carried_release}
@@ -154,11 +154,11 @@ named_or_not P core named names v p = go (cases_eq v (P.node core.count)) (or_no
     go (inl e) (inr isnt) = inr (and_else v (P.node core.count) (named p) (inr isnt), λ d. let never : true ≡ false = sym ((names p).1 d.some) ∙ isnt in absurd cc)
     go (inr ne) b = inr (and_else v (P.node core.count) (named p) (inl ne), λ d. ne d.node)
 
--- who is admitted comes last in the queues that it declares; a release, its end or its first handler step may be due
-pub admitted_indexed : (P : Play) (first : ℕ) (core : Core) (index : Index) (named : ℕ → Bool) (enters : Bool) → Invariant P core → IsIndexed P first core index
-    → TellsNamed P core.count named → TellsEntry P (made_by P core Step.Admit) core.count enters
-    → IsIndexed P first (made_by P core Step.Admit) (admitted index core.count (P.node core.count) named enters)
-admitted_indexed P first core index named enters inv is names may = record {
+-- who is admitted comes last in the queues that it declares, and this is noted of it
+pub admitted_indexed : (P : Play) (first : ℕ) (core : Core) (index : Index) (named : ℕ → Bool) (notes : Notes) → Invariant P core → IsIndexed P first core index
+    → TellsNamed P core.count named → TellsNotes P (made_by P core Step.Admit) core.count notes
+    → IsIndexed P first (made_by P core Step.Admit) (admitted index core.count (P.node core.count) named notes)
+admitted_indexed P first core index named notes inv is names may = record {
   begun = omega (arith, is.begun);
   cleared = λ j less. put-else core.ended core.count j false (λ (e : j ≡ core.count). omega (arith, is.begun)) ∙ is.cleared j less;
   heads = λ u q. heads u q (named_or_not P core named names u q);
@@ -171,17 +171,17 @@ admitted_indexed P first core index named enters inv is names may = record {
 }
   where
     heads : (u q : ℕ) → (((u == P.node core.count) && named q) ≡ true × Declares P u q core.count) ⊎ (((u == P.node core.count) && named q) ≡ false × (Declares P u q core.count → ⊥))
-        → IsHeadOf P (admit P core) u q ((admitted index core.count (P.node core.count) named enters).head u q)
+        → IsHeadOf P (admit P core) u q ((admitted index core.count (P.node core.count) named notes).head u q)
     heads u q (inl (e, d)) = rw e (head_named P core u q (index.head u q) inv (is.heads u q) d)
     heads u q (inr (e, none)) = rw e (head_not P core u q (index.head u q) (is.heads u q) none)
 
     tails : (u q : ℕ) → (((u == P.node core.count) && named q) ≡ true × Declares P u q core.count) ⊎ (((u == P.node core.count) && named q) ≡ false × (Declares P u q core.count → ⊥))
-        → IsTailOf P first (suc core.count) u q ((admitted index core.count (P.node core.count) named enters).tail u q)
+        → IsTailOf P first (suc core.count) u q ((admitted index core.count (P.node core.count) named notes).tail u q)
     tails u q (inl (e, d)) = rw e (tail_named P first core.count u q is.begun d)
     tails u q (inr (e, none)) = rw e (tail_not P first core.count u q (index.tail u q) (is.tails u q) none)
 
     nexts : (j q : ℕ) → first ≤ j → j < suc core.count → 0 < weight (P.decl j) q → (j ≡ core.count) ⊎ (j ≢ core.count)
-        → IsNextOf P (suc core.count) j q ((admitted index core.count (P.node core.count) named enters).next j q)
+        → IsNextOf P (suc core.count) j q ((admitted index core.count (P.node core.count) named notes).next j q)
     nexts j q from lt some (inl e) = rw (eq-eqb j core.count e) (λ i more less d. absurd (omega arith))
     nexts j q from lt some (inr ne) = rw (ne_eqb j core.count ne) (go (or_not (named q)) (is_or_not (index.tail (P.node core.count) q) j))
       where
@@ -204,28 +204,28 @@ admitted_indexed P first core index named enters inv is names may = record {
             (is.tails (P.node core.count) q) from (omega arith) (record { node = sym d.node; some = some })
             (λ i more less here. last i more less (record { node = d.node ∙ here.node; some = here.some })))))
 
-    ready : (j : ℕ) → first ≤ j → j < suc core.count → (j ≡ core.count) ⊎ (j ≢ core.count) → put index.ready core.count enters j ≡ true ↔ MayEnter P (admit P core) j
+    ready : (j : ℕ) → first ≤ j → j < suc core.count → (j ≡ core.count) ⊎ (j ≢ core.count) → put index.ready core.count notes.enters j ≡ true ↔ MayEnter P (admit P core) j
     ready j from lt (inl e) =
-        subst (λ (n : ℕ). put index.ready core.count enters n ≡ true ↔ MayEnter P (admit P core) n) (sym e)
-        (subst (λ (b : Bool). b ≡ true ↔ MayEnter P (admit P core) core.count) (sym (put-here index.ready core.count core.count enters refl)) may)
+        subst (λ (n : ℕ). put index.ready core.count notes.enters n ≡ true ↔ MayEnter P (admit P core) n) (sym e)
+        (subst (λ (b : Bool). b ≡ true ↔ MayEnter P (admit P core) core.count) (sym (put-here index.ready core.count core.count notes.enters refl)) may.entry)
     ready j from lt (inr ne) =
         let old : index.ready j ≡ true ↔ MayEnter P core j = is.ready j from (omega arith) in
-        (λ on. let m : MayEnter P core j = old.0 (sym (put-else index.ready core.count j enters ne) ∙ on) in (m.0, carried_enter P core (admit P core) j m.0 (carries_on P core j ne) refl (λ home. home) m.1), λ m. put-else index.ready core.count j enters ne ∙ old.1 (m.0, carried_enter P (admit P core) core j m.0 (carries_back P core j ne) refl (λ home. home) m.1))
+        (λ on. let m : MayEnter P core j = old.0 (sym (put-else index.ready core.count j notes.enters ne) ∙ on) in (m.0, carried_enter P core (admit P core) j m.0 (carries_on P core j ne) refl (λ home. home) m.1), λ m. put-else index.ready core.count j notes.enters ne ∙ old.1 (m.0, carried_enter P (admit P core) core j m.0 (carries_back P core j ne) refl (λ home. home) m.1))
 
-    restless : (j q : ℕ) → CanRelease P (admit P core) j q → (j ≡ core.count) ⊎ (j ≢ core.count) → put index.restless core.count true j ≡ true
-    restless j q now (inl e) = put-here index.restless core.count j true e
-    restless j q now (inr ne) = put-else index.restless core.count j true ne ∙ is.restless j q (carried_release P (admit P core) core j q (carries_back P core j ne) refl now)
+    restless : (j q : ℕ) → CanRelease P (admit P core) j q → (j ≡ core.count) ⊎ (j ≢ core.count) → put index.restless core.count notes.restless j ≡ true
+    restless j q now (inl e) = put-here index.restless core.count j notes.restless e ∙ may.release q (subst (λ (n : ℕ). CanRelease P (admit P core) n q) e now)
+    restless j q now (inr ne) = put-else index.restless core.count j notes.restless ne ∙ is.restless j q (carried_release P (admit P core) core j q (carries_back P core j ne) refl now)
 
-    closing : (j : ℕ) → CanEnd P (admit P core) j → (j ≡ core.count) ⊎ (j ≢ core.count) → put index.closing core.count true j ≡ true
-    closing j now (inl e) = put-here index.closing core.count j true e
-    closing j now (inr ne) = put-else index.closing core.count j true ne ∙ is.closing j (carried_end P (admit P core) core j (carries_back P core j ne) (λ q some le. le) now)
+    closing : (j : ℕ) → CanEnd P (admit P core) j → (j ≡ core.count) ⊎ (j ≢ core.count) → put index.closing core.count notes.closing j ≡ true
+    closing j now (inl e) = put-here index.closing core.count j notes.closing e ∙ may.end (subst (λ (n : ℕ). CanEnd P (admit P core) n) e now)
+    closing j now (inr ne) = put-else index.closing core.count j notes.closing ne ∙ is.closing j (carried_end P (admit P core) core j (carries_back P core j ne) (λ q some le. le) now)
 
-    unadmitted : (j : ℕ) → suc core.count ≤ j → IsUnmarked (admitted index core.count (P.node core.count) named enters) j
+    unadmitted : (j : ℕ) → suc core.count ≤ j → IsUnmarked (admitted index core.count (P.node core.count) named notes) j
     unadmitted j le =
         let ne : j ≢ core.count = λ (e : j ≡ core.count). omega arith in
         let old : IsUnmarked index j = is.unadmitted j (omega arith) in
         record {
-          ready = put-else index.ready core.count j enters ne ∙ old.ready;
-          restless = put-else index.restless core.count j true ne ∙ old.restless;
-          closing = put-else index.closing core.count j true ne ∙ old.closing;
+          ready = put-else index.ready core.count j notes.enters ne ∙ old.ready;
+          restless = put-else index.restless core.count j notes.restless ne ∙ old.restless;
+          closing = put-else index.closing core.count j notes.closing ne ∙ old.closing;
         }

@@ -14,8 +14,8 @@ pub record Marks (P : Play) (new : Core) (k : ℕ) (index mid : Index) : Type 0 
   pub tail : (v q : ℕ) → mid.tail v q ≡ index.tail v q
   pub next : (j q : ℕ) → mid.next j q ≡ index.next j q
   pub ready : (j : ℕ) → j ≢ k → mid.ready j ≡ index.ready j
-  pub restless : (j : ℕ) → index.restless j ≡ true → mid.restless j ≡ true
-  pub closing : (j : ℕ) → index.closing j ≡ true → mid.closing j ≡ true
+  pub restless : (j : ℕ) → j ≢ k → index.restless j ≡ true → mid.restless j ≡ true
+  pub closing : (j : ℕ) → j ≢ k → index.closing j ≡ true → mid.closing j ≡ true
   pub unmarked : (j : ℕ) → new.count ≤ j → IsUnmarked index j → IsUnmarked mid j
   pub own_ready : TellsEntry P new k (mid.ready k)
   pub own_restless : (q : ℕ) → CanRelease P new k q → mid.restless k ≡ true
@@ -77,7 +77,7 @@ passed_moves P new k p (Some i) index mid enters m lt after head may = record {
   tail = m.tail;
   next = m.next;
   ready = λ j ne isnt. put-else {A = Bool} mid.ready i j enters (λ (e : j ≡ i). isnt (ap (λ (n : ℕ). Some n) (sym e))) ∙ m.ready j ne;
-  restless = λ j e. put_true mid.restless i j (m.restless j e);
+  restless = λ j ne e. put_true mid.restless i j (m.restless j ne e);
   closing = m.closing;
   unmarked = λ j le old. unmarked j (λ (e : j ≡ i). omega (arith, after.admitted)) (m.unmarked j le old);
   next_ready = λ j e. subst (λ (n : ℕ). put mid.ready i enters n ≡ true ↔ MayEnter P new n) (some_injective i j e) there;

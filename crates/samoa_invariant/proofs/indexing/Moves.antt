@@ -30,8 +30,8 @@ pub record Moves (P : Play) (new : Core) (k p : ℕ) (x : Option ℕ) (index oth
   pub tail : (v q : ℕ) → other.tail v q ≡ index.tail v q
   pub next : (j q : ℕ) → other.next j q ≡ index.next j q
   pub ready : (j : ℕ) → j ≢ k → x ≢ Some j → other.ready j ≡ index.ready j
-  pub restless : (j : ℕ) → index.restless j ≡ true → other.restless j ≡ true
-  pub closing : (j : ℕ) → index.closing j ≡ true → other.closing j ≡ true
+  pub restless : (j : ℕ) → j ≢ k → index.restless j ≡ true → other.restless j ≡ true
+  pub closing : (j : ℕ) → j ≢ k → index.closing j ≡ true → other.closing j ≡ true
   pub unmarked : (j : ℕ) → new.count ≤ j → IsUnmarked index j → IsUnmarked other j
   pub next_ready : (j : ℕ) → x ≡ Some j → TellsEntry P new j (other.ready j)
   pub next_restless : (j : ℕ) → x ≡ Some j → other.restless j ≡ true
@@ -147,8 +147,8 @@ step_indexed P first core new k p x index other before inv s turn is m = record 
       where
         go : (x ≡ Some j) ⊎ CanRelease P core j q → other.restless j ≡ true
         go (inl e) = m.next_restless j e
-        go (inr old) = m.restless j (is.restless j q old)
+        go (inr old) = m.restless j ne (is.restless j q old)
 
     closing : (j : ℕ) → CanEnd P new j → (j ≡ k) ⊎ (j ≢ k) → other.closing j ≡ true
     closing j can (inl e) = subst (λ (n : ℕ). other.closing n ≡ true) (sym e) (m.own_closing (subst (λ (n : ℕ). CanEnd P new n) e can))
-    closing j can (inr ne) = m.closing j (is.closing j (ends_back P core new k p j inv s ne can))
+    closing j can (inr ne) = m.closing j ne (is.closing j (ends_back P core new k p j inv s ne can))

@@ -87,8 +87,8 @@ release_marks P first core k p index inv can is = record {
   tail = λ v q. refl;
   next = λ j q. refl;
   ready = λ j ne. refl;
-  restless = λ j e. e;
-  closing = λ j e. put_true index.closing k j e;
+  restless = λ j ne e. e;
+  closing = λ j ne e. put_true index.closing k j e;
   unmarked = λ j le old. record { ready = old.ready; restless = old.restless; closing = put-else index.closing k j true (λ (e : j ≡ k). omega (arith, lt, le)) ∙ old.closing };
   own_ready = (λ on. let may : MayEnter P core k = old.0 on in (may.0, release_own_on P core k p may.0 inv can may.1), λ may. old.1 (may.0, release_own_back P core k p may.0 may.1));
   own_restless = λ q now. restless q now (cases_eq q p);
