@@ -66,14 +66,14 @@ impl<B: Micro> Control<B> {
     {
         let spare = self.spare.pop();
         let number = decl_number(&self.script, ext);
-        let (calls, turns) = room_for_calls(alloc, &self.script, number, spare)?;
+        let (mut calls, turns) = room_for_calls(alloc, &self.script, number, spare)?;
         room_for_one(&mut self.exts, &mut self.running, &mut self.clears)?;
         room_for_change(&mut self.tables, ext.cause)?;
         let steps = steps_for(decl_in(&self.script, number))?;
         self.journal.promise(steps)?;
         // From here on no memory is needed.
         change_tables(&mut self.tables, ext);
-        let calls = begun(&self.script, &self.tables, ext, calls);
+        begin(&self.script, &self.tables, ext, &mut calls);
         let turns = turns_of(&self.script, number, ext.node, &mut self.versions, turns);
         let running = Running {
             node: ext.node,
@@ -159,21 +159,19 @@ fn room_for_calls(
     Ok((calls, turns))
 }
 
-/// The calls of an admission, begun by the present table of its node.
-fn begun(script: &Script, tables: &Tables, ext: &Ext, calls: Comp) -> Comp
+/// Begins the calls of an admission, by the present table of its node.
+fn begin(script: &Script, tables: &Tables, ext: &Ext, calls: &mut Comp)
     requires in_range { IsInRange script.now }
     requires tables { AreTables script.now tables.now }
     requires known { IsExtOf script.now ext.now }
-    requires calls { calls ≡ record { decl = declaration_number script.now ext.now; comp = fresh (decl_of script.now ext.now).budget; waiting_handlers = [] } }
-    ensures calls { result ≡ started script.now tables.now ext.now }
-    ensures none_waits { result.comp.waiting ≡ [] }
+    requires calls { calls.old ≡ record { decl = declaration_number script.now ext.now; comp = fresh (decl_of script.now ext.now).budget; waiting_handlers = [] } }
+    ensures calls { calls.new ≡ started script.now tables.now ext.now }
+    ensures none_waits { calls.new.comp.waiting ≡ [] }
 {
-    let mut calls = calls;
     let decl = decl_in(script, decl_number(script, ext));
     let root = root_of(script, ext.cause);
     let handlers = tables.resolve(ext.node, tables.current(ext.node), root);
     calls.start(&decl.decl, handlers, root, ext.args);
-    calls
 }
 
 /// The calls of a computation that hasn't begun, and a list of no turns, in the memory of the spare record if there is one.

@@ -42,8 +42,8 @@ invariant_of-self-in_err-promise g c =
     rw (c.room_for_one.ensures.exts, c.room_for_one.ensures.running, c.room_for_one.ensures.clears, c.room_for_change.ensures.tables, c.in_err-promise.ensures.err)
     (kept-room (fields_of c.self.inside) _ _ c.self.invariant c.room_for_one.ensures.clears_kept)
 
-pub begun-calls-requires-clause-tables : goal.begun-calls-requires-clause-tables
-begun-calls-requires-clause-tables g c =
+pub begin-requires-clause-tables : goal.begin-requires-clause-tables
+begin-requires-clause-tables g c =
     let fs : Fields = fields_of c.self.inside in
     let admits : Admits _ c.args.ext.now = subst (λ (x : Trace). Admits x c.args.ext.now) (sym c.self.view_is) (record { known = c.requires.known; few = c.requires.few; fits = c.requires.fits }) in
     let changes : ChangesTables fs.script fs.tables c.change_tables.new.tables c.args.ext.now.node c.args.ext.now.cause =
@@ -77,6 +77,6 @@ invariant_of-self-2 g c =
       c.turns_of-turns.ensures.lv,
     )
     (kept-taken fs ext c.len-comp.result (fs.held + c.cells_of.result) c.in_ok-steps.steps (vec_capacity c.room_for_one.new.clears) c.decl_number-number.result c.decl_number-number.result c.decl_in.result.now
-    c.turns_of-turns.new.versions.gv c.change_tables.new.tables _ c.self.invariant admits changes refl c.current.ensures refl c.begun-calls.ensures.calls c.begun-calls.ensures.none_waits
+    c.turns_of-turns.new.versions.gv c.change_tables.new.tables _ c.self.invariant admits changes refl c.current.ensures refl c.begin.ensures.calls c.begin.ensures.none_waits
     c.decl_number-number.ensures.number c.decl_number-number.ensures.number c.decl_in.ensures
     c.in_ok-steps.ensures c.turns_of-turns.ensures.turns c.turns_of-turns.ensures.gv number (ap (λ (n : ℕ). fs.held + n) c.cells_of.ensures.cells) (omega (arith, clears_room, as_many)))
