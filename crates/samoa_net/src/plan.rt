@@ -64,7 +64,7 @@ impl Plan {
 fn items_after(alloc: Global, does: &[DoDef], before: u32) -> Result<Vec<Ext>, NoMemory>
     ensures { IfOk result (λ exts. exts.items ≡ filter (λ ext. nat_lt before ext.tick) (map as_ext does.now)) }
 {
-    let mut exts = Vec::new(alloc);
+    let mut exts = Vec::with_capacity(alloc, does.len())?;
     for item in does {
         if before < item.tick {
             exts.push(ext_of(item))?;
@@ -106,7 +106,8 @@ fn joined(
 ) -> Result<Vec<Ext>, NoMemory>
     ensures { IfOk result (λ exts. exts.items ≡ asked.now ++ filter (up script.now tick) own.now ++ sent.now) }
 {
-    let mut exts = Vec::from_slice(alloc, asked)?;
+    let mut exts = Vec::with_capacity(alloc, asked.len() + own.len() + sent.len())?;
+    exts.extend_from_slice(asked)?;
     for item in own {
         if is_up(script, item, tick) {
             exts.push(*item)?;

@@ -42,6 +42,10 @@ pub fn push_number(number: u64, out: &mut Vec<u8>) -> Result<(), NoMemory>
     ensures ok { OnOk result (out.new.items ≡ out.old.items ++ decimal number) }
     ensures err { OnErr result (out.new.items ≡ out.old.items) }
 {
+    // Most numbers of a report have one digit.
+    if number < 10 {
+        return push_byte(b'0' + number as u8, out);
+    }
     push_text(Buffer::new().format(number).as_bytes(), out)
 }
 
