@@ -7,9 +7,9 @@ use crate::gate::Gate;
 const GRAIN: usize = 128;
 
 /// How many of these workers a part of so many computations gets: one for each grain of them, but one at least, which is
-/// the calling thread. To start a worker takes about as long as ten computations of a few short handler steps, and workers
-/// take turns at the core; so a part of few computations is done before others would be of use. Behind a gate that may hold
-/// a handler step until another was made, a part gets a worker for each computation, as far as there are so many.
+/// the calling thread. To start a worker takes as long as some tens of computations of a few short handler steps, and
+/// workers take turns at the core; so a part of few computations is done before others would be of use. Behind a gate that
+/// may hold a handler step until another was made, a part gets a worker for each computation, as far as there are so many.
 pub fn crew_for<G: Gate>(comps: usize, workers: u32, gate: &G) -> u32
     requires some { 1 ≤ workers }
     ensures some { 1 ≤ result }
