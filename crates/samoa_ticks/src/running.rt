@@ -1,10 +1,10 @@
 //! A part of a tick: what is admitted together is run to its end.
-ghost use Rattle.std.specs.Prelude.{◌≡◌, ◌↔◌, ◌+◌, ◌<◌, ◌≤◌, ◌∷◌, [], length, take, slice_get, Some, All, IfOk, IfSome, IfNone, OnOk};
+ghost use Rattle.std.specs.Prelude.{◌≡◌, ◌+◌, ◌<◌, ◌≤◌, ◌∷◌, [], length, take, slice_get, Some, All, IfOk, IfSome, IfNone, OnOk};
 ghost use Rattle.samoa_model.specs.declared.record.Ext.{Ext};
 ghost use Rattle.samoa_model.specs.Cells.{cells_of, need};
 ghost use Rattle.samoa_model.specs.Range.{IsExtOf};
-ghost use Rattle.samoa_invariant.specs.State.{AllEnded, IsSettled, NothingOut};
-ghost use Rattle.samoa_invariant.specs.Runs.{play, state};
+ghost use Rattle.samoa_invariant.specs.State.{AllEnded, NothingOut};
+ghost use Rattle.samoa_invariant.specs.Runs.{state};
 ghost use Rattle.samoa_control.specs.Later.{IsLater};
 ghost use Rattle.samoa_control.specs.Since.{cleared_comps};
 ghost use Rattle.samoa_ticks.specs.Running.{HasOpened};
@@ -93,10 +93,7 @@ pub fn run_to_end<B: Micro>(alloc: Global, core: &mut Core<B>) -> Result<(), NoM
 {
     let _admitted = core.admitted();
     core.settle();
-    match drain(alloc, core) {
-        Batch::Done => Ok(()),
-        Batch::Memory => Err(NoMemory),
-    }
+    ended(drain(alloc, core))
 }
 
 /// The same by workers behind a gate, each on a thread of its own; one works on the calling thread.
@@ -119,33 +116,21 @@ pub fn work_to_end<B: Micro + Send, G: Gate + Sync, R: Threads + Wait + Sync>(
     let mut core = core;
     let _admitted = core.admitted();
     core.settle();
-    let (core, batch) = run_settled(rt, alloc, core, workers, gate);
-    match batch {
-        Batch::Done => (core, Ok(())),
-        Batch::Memory => (core, Err(NoMemory)),
+    // Each handing on of a core by value is a copy of it.
+    if workers == 1 {
+        let batch = drain_behind(alloc, &mut core, gate);
+        return (core, ended(batch));
     }
+    let (core, batch) = run_batch(rt, alloc, core, workers, gate);
+    (core, ended(batch))
 }
 
-/// The same of a settled core.
-fn run_settled<B: Micro + Send, G: Gate + Sync, R: Threads + Wait + Sync>(
-    rt: &R,
-    alloc: Global,
-    core: Core<B>,
-    workers: u32,
-    gate: &G,
-) -> (Core<B>, Batch)
-    requires some { 1 ≤ workers }
-    requires few { workers ≤ 64 }
-    requires settled { IsSettled (play core) (state core) }
-    requires home { NothingOut (state core) }
-    ensures done { (result.1 ≡ Batch.Done) ↔ AllEnded (state result.0) }
-    ensures home { NothingOut (state result.0) }
-    ensures later { IsLater core result.0 }
+/// What a batch that came to its end means: want of memory, unless all have ended.
+fn ended(batch: Batch) -> Result<(), NoMemory>
+    ensures { OnOk result (batch ≡ Batch.Done) }
 {
-    if workers == 1 {
-        let mut core = core;
-        let batch = drain_behind(alloc, &mut core, gate);
-        return (core, batch);
+    match batch {
+        Batch::Done => Ok(()),
+        Batch::Memory => Err(NoMemory),
     }
-    run_batch(rt, alloc, core, workers, gate)
 }

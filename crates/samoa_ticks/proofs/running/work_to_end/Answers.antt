@@ -1,37 +1,20 @@
-use Rattle.std.proofs.Common.{◌∙◌}
-use Rattle.samoa_control.specs.Later.{IsLater}
+use Rattle.std.proofs.lemmas.Result.{on_ok_weaker}
 use Rattle.samoa_control.proofs.Later.{later-trans}
-use Rattle.samoa_ticks.proofs.Kept.{cleared-later, held-later}
+use Rattle.samoa_ticks.proofs.Kept.{held-later}
 use Rattle.samoa_ticks.proofs.running.work_to_end.Goals as goal
 
-pub returns-in-Done-clause-cleared : goal.returns-in-Done-clause-cleared
-returns-in-Done-clause-cleared g c =
-    let later : IsLater c.args.core c.run_settled-core.result.0 = later-trans _ _ _ c.settle.ensures.later c.run_settled-core.ensures.later in
-    cleared-later _ _ c.admitted-admitted.ensures.run later
+pub returns-then-workers-eq1-clause-all : goal.returns-then-workers-eq1-clause-all
+returns-then-workers-eq1-clause-all g c = on_ok_weaker c.ended.result (λ done. c.drain_behind-batch.ensures.done.0 done) c.ended.ensures
 
-pub returns-in-Done-clause-held : goal.returns-in-Done-clause-held
-returns-in-Done-clause-held g c =
-    let later : IsLater c.args.core c.run_settled-core.result.0 = later-trans _ _ _ c.settle.ensures.later c.run_settled-core.ensures.later in
-    held-later _ _ c.admitted-admitted.ensures.run later
+pub returns-then-workers-eq1-clause-held : goal.returns-then-workers-eq1-clause-held
+returns-then-workers-eq1-clause-held g c =
+    held-later _ _ c.admitted-admitted.ensures.run (later-trans _ _ _ c.settle.ensures.later c.drain_behind-batch.ensures.later)
 
-pub returns-in-Memory-clause-cleared : goal.returns-in-Memory-clause-cleared
-returns-in-Memory-clause-cleared g c =
-    let later : IsLater c.args.core c.run_settled-core.result.0 = later-trans _ _ _ c.settle.ensures.later c.run_settled-core.ensures.later in
-    cleared-later _ _ c.admitted-admitted.ensures.run later
+pub returns-clause-all : goal.returns-clause-all
+returns-clause-all g c = on_ok_weaker c.ended-2.result (λ done. c.run_batch-core.ensures.done.0 done) c.ended-2.ensures
 
-pub returns-in-Memory-clause-held : goal.returns-in-Memory-clause-held
-returns-in-Memory-clause-held g c =
-    let later : IsLater c.args.core c.run_settled-core.result.0 = later-trans _ _ _ c.settle.ensures.later c.run_settled-core.ensures.later in
-    held-later _ _ c.admitted-admitted.ensures.run later
+pub returns-clause-later : goal.returns-clause-later
+returns-clause-later g c = later-trans _ _ _ c.settle.ensures.later c.run_batch-core.ensures.later
 
-pub run_settled-core-requires-clause-home : goal.run_settled-core-requires-clause-home
-run_settled-core-requires-clause-home g c κs within v p = c.settle.ensures.still.out v p ∙ c.requires.home v p
-
-pub returns-in-Done-clause-all : goal.returns-in-Done-clause-all
-returns-in-Done-clause-all g c = c.run_settled-core.ensures.done.0 c.in-Done.is
-
-pub returns-in-Done-clause-later : goal.returns-in-Done-clause-later
-returns-in-Done-clause-later g c = later-trans _ _ _ c.settle.ensures.later c.run_settled-core.ensures.later
-
-pub returns-in-Memory-clause-later : goal.returns-in-Memory-clause-later
-returns-in-Memory-clause-later g c = later-trans _ _ _ c.settle.ensures.later c.run_settled-core.ensures.later
+pub returns-clause-held : goal.returns-clause-held
+returns-clause-held g c = held-later _ _ c.admitted-admitted.ensures.run (later-trans _ _ _ c.settle.ensures.later c.run_batch-core.ensures.later)
